@@ -1,0 +1,86 @@
+-- What is found in an input decides the status.
+use Rattle.std.proofs.Common.{◌≡◌, ℕ, ◌<◌, ◌≤◌, List, length, true, false, Option, Some, None, IfSome, ◌⊎◌, inl, inr, sym, ◌∙◌, subst, arith}
+use Rattle.std.proofs.lemmas.Bool.{true≢false}
+use Rattle.spec_step.specs.declared.token.Span.{Span}
+use Rattle.spec_step.specs.Form.{box_form, HasForm}
+use Rattle.spec_run.specs.Words.{names_convert}
+use Rattle.spec_run.specs.Inputs.{most_bytes, first_wrong, IsNotBuilt, IsBox}
+use Rattle.spec_run.specs.Runs.{IsFound, IsNumbered}
+use Rattle.spec_run.specs.declared.Outcome.{Outcome}
+use Rattle.spec_run.specs.declared.Outcome.TheVariants.{Page, NotBuilt, TooLarge, ReadFault, NoMemory, Usage}
+use Rattle.step_text.proofs.Unique.{one_form, no_both_forms}
+use Rattle.ix_convert.specs.Statuses.{status_of, Yields}
+use Rattle.ix_convert.specs.declared.status.Status.{Status}
+use Rattle.ix_convert.specs.declared.status.Status.TheVariants as status
+
+-- what holds of the bytes that were read holds of those that a source tells
+pub told : (known : Option (List ℕ)) (bytes : List ℕ) (P : List ℕ → Type 0) → IfSome known (λ given. bytes ≡ given) → P bytes → IfSome known P
+told None bytes P e h = tt
+told (Some given) bytes P e h = subst P e h
+
+some_none : (at : ℕ) → Some at ≡ None → ⊥
+some_none at e = cc
+
+-- a file of a box has no fault of its form, and no number that is wrong
+pub box_is_built : (s : List ℕ) (numbers : List Span) (at : ℕ) → IsBox s numbers → IsNotBuilt s at → ⊥
+box_is_built s numbers at box (small, inl departs) = no_both_forms box_form s 0 numbers at box.1 departs
+box_is_built s numbers at box (small, inr wrong) =
+    let same = one_form box_form s 0 wrong.0 numbers wrong.1 box.1 in
+    some_none at (sym wrong.2 ∙ subst (λ ns. first_wrong s ns ≡ None) (sym same) box.2)
+
+words_clash : (words : List (List ℕ)) → names_convert words ≡ true → names_convert words ≡ false → ⊥
+words_clash words p q = true≢false (sym p ∙ q)
+
+too_long : (s : List ℕ) → length s ≤ most_bytes → most_bytes < length s → ⊥
+too_long s p q = omega arith
+
+-- an input that is not built is refused
+pub refused_by : (words : List (List ℕ)) (given page : List ℕ) (o : Outcome) (result : Status) (at : ℕ)
+    → names_convert words ≡ true → IsFound words given page o → (result ≡ status_of o) ⊎ (result ≡ status.WriteFault) → IsNotBuilt given at → Yields result status.FileRefused
+refused_by words given page o result at convert found (inr fault) wrong = inr fault
+refused_by words given page (Page corners faces) result at convert found (inl e) wrong =
+    absurd (box_is_built given found.1.0 at found.1.2 wrong)
+refused_by words given page (NotBuilt place) result at convert found (inl e) wrong = inl (inl (inl e))
+refused_by words given page TooLarge result at convert found (inl e) wrong = inl (inl (inl e))
+refused_by words given page ReadFault result at convert found (inl e) wrong = inl (inl (inr e))
+refused_by words given page NoMemory result at convert found (inl e) wrong = inl (inr e)
+refused_by words given page Usage result at convert found (inl e) wrong = absurd (words_clash words convert found.0)
+
+-- a file of a box is converted
+pub converted_by : (words : List (List ℕ)) (given page : List ℕ) (o : Outcome) (result : Status) (numbers : List Span)
+    → names_convert words ≡ true → IsFound words given page o → (result ≡ status_of o) ⊎ (result ≡ status.WriteFault) → IsBox given numbers → Yields result status.Done
+converted_by words given page o result numbers convert found (inr fault) box = inr fault
+converted_by words given page (Page corners faces) result numbers convert found (inl e) box = inl (inl (inl e))
+converted_by words given page (NotBuilt place) result numbers convert found (inl e) box = absurd (box_is_built given numbers place box found.1.0)
+converted_by words given page TooLarge result numbers convert found (inl e) box = absurd (too_long given box.0 found.1.0)
+converted_by words given page ReadFault result numbers convert found (inl e) box = inl (inl (inr e))
+converted_by words given page NoMemory result numbers convert found (inl e) box = inl (inr e)
+converted_by words given page Usage result numbers convert found (inl e) box = absurd (words_clash words convert found.0)
+
+-- where the report has a number, the words named the job
+pub wants_convert : (words : List (List ℕ)) (given page : List ℕ) (o : Outcome) → IsNumbered o → IsFound words given page o → names_convert words ≡ true
+wants_convert words given page (Page corners faces) numbered found = found.0
+wants_convert words given page (NotBuilt at) numbered found = found.0
+wants_convert words given page TooLarge numbered found = absurd numbered
+wants_convert words given page ReadFault numbered found = absurd numbered
+wants_convert words given page NoMemory numbered found = absurd numbered
+wants_convert words given page Usage numbered found = absurd numbered
+
+-- the same for a source that may tell its bytes
+pub all_refused : (words : List (List ℕ)) (known : Option (List ℕ)) (page : List ℕ) (o : Outcome) (result : Status)
+    → IfSome known (λ given. IsFound words given page o) → (result ≡ status_of o) ⊎ (result ≡ status.WriteFault)
+    → names_convert words ≡ true → IfSome known (λ given. (at : ℕ) → IsNotBuilt given at → Yields result status.FileRefused)
+all_refused words None page o result found ends convert = tt
+all_refused words (Some given) page o result found ends convert = λ at wrong. refused_by words given page o result at convert found ends wrong
+
+pub all_converted : (words : List (List ℕ)) (known : Option (List ℕ)) (page : List ℕ) (o : Outcome) (result : Status)
+    → IfSome known (λ given. IsFound words given page o) → (result ≡ status_of o) ⊎ (result ≡ status.WriteFault)
+    → names_convert words ≡ true → IfSome known (λ given. (numbers : List Span) → IsBox given numbers → Yields result status.Done)
+all_converted words None page o result found ends convert = tt
+all_converted words (Some given) page o result found ends convert = λ numbers box. converted_by words given page o result numbers convert found ends box
+
+-- where memory is wanting for a report, want of memory is what is found
+pub without_memory : (words : List (List ℕ)) (known : Option (List ℕ)) (page : List ℕ) (o : Outcome) (P : Outcome → Type 0) → IsNumbered o
+    → IfSome known (λ given. IsFound words given page o) → P NoMemory → IfSome known (λ given. (x : Outcome) × IsFound words given page x × P x)
+without_memory words None page o P numbered found p = tt
+without_memory words (Some given) page o P numbered found p = (NoMemory, wants_convert words given page o numbered found, p)

@@ -1,0 +1,4 @@
+pub mod Meshes
+pub mod Ranges
+pub mod Statuses
+pub mod Writing

@@ -1,0 +1,15 @@
+-- Sizes of coordinates.
+use Rattle.std.specs.Prelude.{ℕ, ◌^◌, ◌≤◌, ◌≤ℤ◌, unsigned_abs}
+use Rattle.spec_space.specs.declared.Vector.{Vector}
+
+-- grid steps within the limit of 2^20
+pub record AreSteps (v : Vector) : Type 0 where
+  pub x : unsigned_abs v.x ≤ 2 ^ 20
+  pub y : unsigned_abs v.y ≤ 2 ^ 20
+  pub z : unsigned_abs v.z ≤ 2 ^ 20
+
+-- no coordinate of the first is above that of the second
+pub record IsBelow (low high : Vector) : Type 0 where
+  pub x : low.x ≤ℤ high.x
+  pub y : low.y ≤ℤ high.y
+  pub z : low.z ≤ℤ high.z

@@ -1,0 +1,16 @@
+//! Jobs, and the call that runs them.
+#![tactic(auto)]
+
+mod answer;
+mod bounds;
+mod extents;
+mod job;
+mod mesh;
+mod page;
+mod report;
+mod run;
+mod status;
+
+pub use job::Job;
+pub use run::convert_run;
+pub use status::Status;

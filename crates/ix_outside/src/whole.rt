@@ -1,0 +1,58 @@
+ghost use Rattle.std.specs.Prelude.{◌≡◌, ◌≢◌, ℕ, ◌^◌, ◌<◌, ◌≤◌, length, vec_len, IfOk, IfSome, OnOk, OnErr, IsErrOf};
+ghost use Rattle.std.specs.Io.KnownBytes.{Appends, IsAtEnd};
+ghost use Rattle.spec_outside.specs.Causes.{Rose, AppendsFront};
+
+use crate::fault::{Failed, TakeFault, WriteFault};
+use crate::sink::Sink;
+use crate::source::Source;
+use std::alloc::Global;
+
+/// Reads a source to its end.
+pub fn read_whole<S: Source>(alloc: Global, src: &mut S, limit: usize) -> Result<Vec<u8>, TakeFault>
+    requires { limit ≤ 2 ^ 27 }
+    // All bytes up to the end, within the limit.
+    ensures all { IfOk result (λ bytes. IfSome (S.left src.old) (λ given. bytes.items ≡ given)) }
+    ensures end { OnOk result (IsAtEnd (S.left src.new)) }
+    ensures within { IfOk result (λ bytes. vec_len bytes ≤ limit) }
+    ensures too_large { IsErrOf result TakeFault.TooLarge → IfSome (S.left src.old) (λ given. limit < length given) }
+    // The count of faults.
+    ensures later { S.faults src.old ≤ S.faults src.new }
+    ensures cause { IsErrOf result TakeFault.Fault → Rose (S.faults src.old) (S.faults src.new) }
+    ensures kept { (IsErrOf result TakeFault.Fault → ⊥) → S.faults src.new ≡ S.faults src.old }
+{
+    let mut bytes: Vec<u8> = Vec::new(alloc);
+    let mut chunk = [0u8; 4096];
+    loop {
+        let count = match src.take(&mut chunk) {
+            Ok(count) => count,
+            Err(Failed) => return Err(TakeFault::Fault),
+        };
+        if count == 0 {
+            return Ok(bytes);
+        }
+        if count > limit - bytes.len() {
+            return Err(TakeFault::TooLarge);
+        }
+        if bytes.extend_from_slice(&chunk[..count]).is_err() {
+            return Err(TakeFault::NoMemory);
+        }
+    }
+}
+
+/// Puts a whole text.
+pub fn write_whole<O: Sink>(out: &mut O, text: &[u8]) -> Result<(), WriteFault>
+    ensures ok { OnOk result (Appends (O.held out.old) (O.held out.new) text.now) }
+    ensures front { AppendsFront (O.held out.old) (O.held out.new) text.now }
+    ensures later { O.faults out.old ≤ O.faults out.new }
+    ensures cause { OnErr result (Rose (O.faults out.old) (O.faults out.new)) }
+    ensures kept { OnOk result (O.faults out.new ≡ O.faults out.old) }
+{
+    let mut at = 0;
+    while at < text.len() {
+        match out.put(&text[at..]) {
+            Ok(count) => at += count,
+            Err(Failed) => return Err(WriteFault),
+        }
+    }
+    Ok(())
+}

@@ -1,0 +1,2 @@
+//! Rules of numbers: decimal texts, their values, and rounding. This crate has definitions alone.
+#![tactic(auto)]

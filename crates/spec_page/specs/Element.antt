@@ -1,0 +1,29 @@
+-- The printed element, which a page stands for.
+use Rattle.std.specs.Prelude.{ℕ, ℤ, pos, List, Option}
+use Rattle.spec_space.specs.declared.Plane.{Plane}
+use Rattle.spec_page.specs.declared.Corner.{Corner}
+use Rattle.spec_page.specs.declared.Frame.{Frame}
+
+-- a face: its plane with the normal outwards, for each edge a plane with the normal out of the face, and the places of
+-- its corners among the element's, from 0; edge i goes from corner i to the next, and the last to the first
+pub record Face : Type 0 where
+  pub plane : Plane
+  pub edges : List Plane
+  pub corners : List ℕ
+
+-- an element of a page; the volume is sixfold, in cubic micrometres, and None where it passes 128 bits
+pub record Element : Type 0 where
+  pub number : ℕ
+  pub frame : Frame
+  pub corners : List Corner
+  pub faces : List Face
+  pub six : Option ℤ
+
+-- the frame of the world
+abbrev pub world_frame : Frame
+world_frame = record {
+  x = record { x = pos 1000000000; y = pos 0; z = pos 0 };
+  y = record { x = pos 0; y = pos 1000000000; z = pos 0 };
+  z = record { x = pos 0; y = pos 0; z = pos 1000000000 };
+  off = record { x = pos 0; y = pos 0; z = pos 0 };
+}

@@ -1,0 +1,4 @@
+pub mod Spelling
+pub mod Longest
+pub mod Gaps
+pub mod Form

@@ -1,0 +1,10 @@
+pub mod Residual
+pub mod Best
+pub mod Gaps
+pub mod Words
+pub mod Unique
+pub mod Places
+pub mod Forms
+pub mod Whole
+pub mod Ends
+pub mod Box
