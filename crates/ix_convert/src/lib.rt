@@ -10,6 +10,8 @@ mod page;
 mod report;
 mod run;
 mod status;
+#[cfg(test)]
+mod tests;
 
 pub use job::Job;
 pub use run::convert_run;

@@ -7,6 +7,8 @@ mod memory_source;
 mod sink;
 mod source;
 mod std_ends;
+#[cfg(test)]
+mod tests;
 mod whole;
 
 pub use fault::{Failed, TakeFault, WriteFault};

@@ -1,2 +1,4 @@
 pub mod Element
 pub mod Page
+pub mod Faces
+pub mod World

@@ -1,4 +1,5 @@
 pub mod Words
+pub mod Boxes
 pub mod Inputs
 pub mod Reports
 pub mod Runs

@@ -1,0 +1,2 @@
+//! What is promised of each printed element. This crate has definitions alone.
+#![tactic(auto)]

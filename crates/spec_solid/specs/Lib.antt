@@ -1,0 +1,4 @@
+pub mod Triangles
+pub mod Solids
+pub mod Planes
+pub mod Extrusions
