@@ -1,3 +1,3 @@
+pub mod Boxes
 pub mod Exact
-pub mod Sizes
 pub mod Texts

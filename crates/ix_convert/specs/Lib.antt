@@ -1,4 +1,2 @@
-pub mod Meshes
-pub mod Ranges
 pub mod Statuses
 pub mod Writing

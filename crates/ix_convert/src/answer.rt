@@ -3,12 +3,12 @@ ghost use Rattle.spec_outside.specs.Causes.{Rose};
 ghost use Rattle.spec_run.specs.Words.{names_convert};
 ghost use Rattle.spec_run.specs.Inputs.{most_bytes};
 ghost use Rattle.spec_run.specs.Runs.{IsFoundIn, IsFound, IsPage};
-ghost use Rattle.ix_convert.specs.Meshes.{corners_of, faces_of};
+ghost use Rattle.box_mesh.specs.Meshes.{corners_of, faces_of};
 
 use crate::extents::box_bounds;
 use crate::job::Job;
-use crate::mesh::{BoxMesh, box_mesh};
 use crate::page::put_page;
+use box_mesh::{BoxMesh, make_mesh};
 use ix_outside::{Source, TakeFault, read_whole};
 use spec_run::Outcome;
 use std::alloc::{AllocError, Global};
@@ -41,7 +41,7 @@ fn convert(source: &[u8], page: &mut Vec<u8>) -> Outcome
         Err(PlainFault { at }) => return Outcome::NotBuilt { at },
     };
     let mesh = match box_bounds(source, &plain) {
-        Ok(bounds) => box_mesh(&bounds),
+        Ok(bounds) => make_mesh(&bounds),
         Err(at) => return Outcome::NotBuilt { at },
     };
     let (corners, faces) = counts(&mesh);

@@ -2,10 +2,8 @@
 #![tactic(auto)]
 
 mod answer;
-mod bounds;
 mod extents;
 mod job;
-mod mesh;
 mod page;
 mod report;
 mod run;

@@ -1,9 +1,9 @@
 ghost use Rattle.std.specs.Prelude.{◌≡◌, ℕ, ◌+◌, ◌<◌, ◌^◌, ◌++◌, [], ◌∷◌, OnOk, codes};
 ghost use Rattle.std.specs.List.{flat_map};
 ghost use Rattle.spec_page.specs.Page.{spaced, spaced_three, spaced_vector, spaced_metres, six_digits, size_in_metres, metres, plane_line, frame_line, exact_line, printed_line, corner_lines, index_text, indices_line, face_lines, volume_line, number_line, element_body, page_text};
-ghost use Rattle.ix_convert.specs.Meshes.{face_of, element_of};
+ghost use Rattle.box_mesh.specs.Meshes.{face_of, element_of};
 
-use crate::mesh::{BoxMesh, Quad};
+use box_mesh::{BoxMesh, Quad};
 use spec_page::{Corner, Frame};
 use spec_space::{Plane, Point, Vector};
 use std::alloc::AllocError;

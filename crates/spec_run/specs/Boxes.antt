@@ -27,6 +27,13 @@ rectangle x y =
     record { x = lower x; y = lower y; z = pos 0 } ∷ record { x = lower x +ℤ x; y = lower y; z = pos 0 }
     ∷ record { x = lower x +ℤ x; y = lower y +ℤ y; z = pos 0 } ∷ record { x = lower x; y = lower y +ℤ y; z = pos 0 } ∷ []
 
+-- the least and the greatest corner of the box of these extents in nanometres, on the grid
+abbrev pub low_corner : ℤ → ℤ → Vector
+low_corner x y = on_grid (record { x = lower x; y = lower y; z = pos 0 })
+
+abbrev pub high_corner : ℤ → ℤ → ℤ → Vector
+high_corner x y z = on_grid (record { x = lower x +ℤ x; y = lower y +ℤ y; z = z })
+
 -- the box of these extents in nanometres: its faces, cut into triangles on the grid
 abbrev pub box_body : ℤ → ℤ → ℤ → Body
 box_body x y z = record {

@@ -3,7 +3,10 @@ use Rattle.std.specs.Prelude.{◌≡◌, ℕ, ℤ, pos, ◌-◌, ◌^◌, ◌≤
 use Rattle.spec_num.specs.Decimals.{decimal_units}
 use Rattle.spec_step.specs.declared.token.Span.{Span}
 use Rattle.spec_step.specs.Form.{box_form, HasForm, Departs}
+use Rattle.spec_solid.specs.Solids.{Body}
 use Rattle.spec_page.specs.Element.{Element, world_frame}
+use Rattle.spec_headline.specs.Headline.{IsPrintOf}
+use Rattle.spec_run.specs.Boxes.{nanometres, box_body}
 
 -- the greatest number of bytes that are read
 abbrev pub most_bytes : ℕ
@@ -31,7 +34,17 @@ IsNotBuilt s at = (length s ≤ most_bytes)
 abbrev pub IsBox : List ℕ → List Span → Type 0
 IsBox s numbers = (length s ≤ most_bytes) × HasForm box_form s 0 numbers × (first_wrong s numbers ≡ None)
 
--- this is the printed element of the file's one wall
+-- a number of the file as a length in nanometres
+abbrev pub length_at : List ℕ → Span → ℤ
+length_at s span = nanometres (decimal_units (text_at s span))
+
+-- the items of the file's one wall: the box of its three numbers; it has no openings
+abbrev pub wall_body : List ℕ → List Span → Body
+wall_body s (x ∷ y ∷ z ∷ []) = box_body (length_at s x) (length_at s y) (length_at s z)
+wall_body s _ = record { items = []; openings = [] }
+
+-- this is the printed element of the file's one wall, on the grid of 1000 micrometres
 pub record IsElementOf (s : List ℕ) (numbers : List Span) (e : Element) : Type 0 where
   pub number : e.number ≡ 13
   pub frame : e.frame ≡ world_frame
+  pub print : IsPrintOf (wall_body s numbers) 1000 e

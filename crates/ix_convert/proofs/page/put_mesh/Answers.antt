@@ -2,7 +2,7 @@ use Rattle.std.proofs.Common.{FitsSigned, ◌++◌, ◌∙◌, ap, sym, arith}
 use Rattle.std.proofs.lemmas.Int.{to_z-of_z, ints}
 use mir.Syntax.{w128}
 use Rattle.spec_page.specs.Page.{face_lines}
-use Rattle.ix_convert.specs.Meshes.{face_of}
+use Rattle.box_mesh.specs.Meshes.{face_of}
 use Rattle.ix_convert.proofs.Texts.{joined_three, flat_map-map}
 use Rattle.ix_convert.proofs.page.put_mesh.Goals as goal
 

@@ -1,5 +1,5 @@
 -- Sizes of coordinates.
-use Rattle.std.specs.Prelude.{ℕ, ◌^◌, ◌≤◌, ◌≤ℤ◌, unsigned_abs}
+use Rattle.std.specs.Prelude.{◌^◌, ◌≤◌, ◌≤ℤ◌, unsigned_abs}
 use Rattle.spec_space.specs.declared.Vector.{Vector}
 
 -- grid steps within the limit of 2^20

@@ -1,10 +1,10 @@
 use Rattle.std.proofs.Common.{FitsSigned, ◌*ℤ◌, pos, arith, refl}
 use Rattle.std.proofs.lemmas.Int.{to_z-of_z, ints}
 use mir.Syntax.{w128}
-use Rattle.ix_convert.proofs.mesh.corner.Goals as goal
+use Rattle.box_mesh.proofs.mesh.corner.Goals as goal
 
-pub returns-clause-printed : goal.returns-clause-printed
-returns-clause-printed c =
+pub returns : goal.returns
+returns c =
     let x : FitsSigned w128 c.args.x = c.ranges.x in
     let y : FitsSigned w128 c.args.y = c.ranges.y in
     let z : FitsSigned w128 c.args.z = c.ranges.z in

@@ -1,4 +1,6 @@
-ghost use Rattle.ix_convert.specs.Ranges.{AreSteps, IsBelow};
+ghost use Rattle.std.specs.Prelude.{◌≡◌, ◌||◌};
+ghost use Rattle.std.specs.Ordering.{int_eq};
+ghost use Rattle.box_mesh.specs.Ranges.{AreSteps, IsBelow};
 
 use spec_space::Vector;
 
@@ -14,7 +16,9 @@ pub struct Bounds {
 
 impl Bounds {
     /// Some extent is nothing on the grid.
-    pub fn is_flat(&self) -> bool {
+    pub fn is_flat(&self) -> bool
+        ensures { result ≡ (int_eq self.now.low.x self.now.high.x || (int_eq self.now.low.y self.now.high.y || int_eq self.now.low.z self.now.high.z)) }
+    {
         self.low.x == self.high.x || self.low.y == self.high.y || self.low.z == self.high.z
     }
 }

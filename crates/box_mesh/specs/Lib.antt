@@ -1,0 +1,4 @@
+pub mod Boxes
+pub mod Meshes
+pub mod Printed
+pub mod Ranges

@@ -1,0 +1,8 @@
+//! The mesh of a box: the plainest engine, for the one solid that is built.
+#![tactic(auto)]
+
+mod bounds;
+mod mesh;
+
+pub use bounds::Bounds;
+pub use mesh::{BoxMesh, Quad, make_mesh};
