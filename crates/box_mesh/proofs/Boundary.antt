@@ -13,7 +13,8 @@ use Rattle.box_mesh.specs.Boxes.{grid_body, is_between, is_in_box, IsWide}
 use Rattle.box_mesh.specs.Printed.{box_element}
 use Rattle.box_mesh.specs.Ranges.{IsBelow}
 use Rattle.box_mesh.proofs.BoxPlanes.{side_x, side_y, side_z, IsSlanted, IsBoxPlane, left, right, front, back, bottom, top, slanted}
-use Rattle.box_mesh.proofs.Neighbours.{mul_positive, mul_keeps_below, IsSmall, is_strictly_between, neighbour_between, low_above, low_below, high_below, high_above, nothing_between}
+use Rattle.integer_laws.proofs.Signs.{mul_positive}
+use Rattle.box_mesh.proofs.Neighbours.{mul_keeps_below, IsSmall, is_strictly_between, neighbour_between, low_above, low_below, high_below, high_above, nothing_between}
 use Rattle.box_mesh.proofs.Sides.{value_x, value_y, value_z, pick, bottom_face, top_face, front_face, right_face, back_face, left_face, picked_faces, off_left, off_right, off_front, off_back, off_bottom, off_top, on_left, on_right, on_front, on_back, on_bottom, on_top}
 
 -- ---- tests

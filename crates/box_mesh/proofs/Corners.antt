@@ -14,7 +14,7 @@ use Rattle.spec_page.specs.Element.{Face, world_frame}
 use Rattle.spec_page.specs.World.{rounded_image, image_above}
 use Rattle.box_mesh.specs.Boxes.{IsWide}
 use Rattle.box_mesh.specs.Printed.{corner_of, box_corners, box_sides}
-use Rattle.box_mesh.proofs.Division.{floor_low, floor_high}
+use Rattle.ix_num.proofs.Division.{floor_low, floor_high}
 
 -- a fraction over 10 ^ 9 whose value is whole is rounded to that value
 round_whole : (v : ℤ) → round_of (pos (10 ^ 9) *ℤ v) (pos (10 ^ 9)) ≡ v

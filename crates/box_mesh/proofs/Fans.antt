@@ -7,7 +7,7 @@ use Rattle.spec_solid.specs.Triangles.{Triangle, differ, turn, is_pierced}
 use Rattle.spec_solid.specs.Solids.{pierces_oddly}
 use Rattle.spec_solid.specs.Extrusions.{face_triangles}
 use Rattle.box_mesh.specs.Boxes.{place, quadrilateral}
-use Rattle.box_mesh.proofs.Ring.{var, con, ◌⊗◌, ◌⊖◌, ring}
+use Rattle.integer_laws.proofs.Ring.{var, con, ◌⊗◌, ◌⊖◌, ring}
 use Rattle.box_mesh.proofs.Edges.{not_pierced}
 
 abbrev pub triangle : Vector → Vector → Vector → Triangle

@@ -9,8 +9,8 @@ use Rattle.spec_solid.specs.Solids.{Shell, pierces_oddly, is_meant}
 use Rattle.spec_solid.specs.Extrusions.{face_triangles}
 use Rattle.box_mesh.specs.Boxes.{place, quadrilateral, box_faces, grid_body, is_between, is_in_box}
 use Rattle.box_mesh.specs.Ranges.{IsBelow}
-use Rattle.box_mesh.proofs.Signs.{scaled_le}
-use Rattle.box_mesh.proofs.Tests.{between_below, between_above}
+use Rattle.integer_laws.proofs.Signs.{scaled_le}
+use Rattle.box_mesh.proofs.Orders.{between_below, between_above}
 use Rattle.box_mesh.proofs.Fans.{level_face, upright_face, pierces_faces}
 use Rattle.box_mesh.proofs.Pierced.{side_face}
 

@@ -1,13 +1,8 @@
-pub mod Sizes
-pub mod Ring
-pub mod Signs
-pub mod Tests
-pub mod Division
+pub mod Orders
 pub mod Edges
 pub mod Fans
 pub mod Pierced
 pub mod Inside
-pub mod Factors
 pub mod Members
 pub mod BoxPlanes
 pub mod Planes

@@ -10,7 +10,7 @@ use Rattle.spec_solid.specs.Solids.{Body, Shell}
 use Rattle.spec_solid.specs.Planes.{plane_through, upright_plane, triangle_planes, body_planes}
 use Rattle.spec_solid.specs.Extrusions.{face_triangles}
 use Rattle.box_mesh.specs.Boxes.{quadrilateral}
-use Rattle.box_mesh.proofs.Factors.{size_zero, first_first, second_second}
+use Rattle.integer_laws.proofs.Products.{size_zero, first_first, second_second}
 
 abbrev pub shell_body : List Triangle → Body
 shell_body ts = record { items = Shell ts ∷ []; openings = [] }

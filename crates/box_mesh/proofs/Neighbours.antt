@@ -1,35 +1,15 @@
 -- When a neighbour of a coordinate is in a range: n is the factor between a point and its neighbours.
-use Rattle.std.proofs.Common.{◌≡◌, ◌≢◌, ◌*◌, ◌≤◌, ℤ, pos, negsuc, ◌+ℤ◌, ◌-ℤ◌, ◌*ℤ◌, neg_ℤ, ◌<ℤ◌, ◌≤ℤ◌, int_lt, int_le, Bool, true, false, ◌&&◌, arith, ap, ap₂, ◌∙◌, refl, sym, mul-le-mul}
+use Rattle.std.proofs.Common.{◌≡◌, ◌≢◌, ◌≤◌, ℤ, pos, negsuc, ◌+ℤ◌, ◌-ℤ◌, ◌*ℤ◌, neg_ℤ, ◌<ℤ◌, ◌≤ℤ◌, int_lt, int_le, Bool, true, false, ◌&&◌, arith, ap, ap₂, ◌∙◌, refl, sym, mul-le-mul}
 use Rattle.std.proofs.lemmas.Int.{ints, by_lt_z}
-use borrow.Author.Differences.{up, down, sum_is_lem, product_is}
+use Rattle.integer_laws.proofs.Ring.{*ℤ_assoc, *ℤ_comm, *ℤ-+ℤ}
+use Rattle.integer_laws.proofs.Signs.{mul_positive}
+use Rattle.box_mesh.proofs.Orders.{test_true, test_false}
 use Rattle.box_mesh.specs.Boxes.{is_between}
 
-associates : (a b c : ℤ) → (a *ℤ b) *ℤ c ≡ a *ℤ (b *ℤ c)
-associates a b c =
-    let p = product_is a b in
-    let q = product_is b c in
-    omega (arith, ints, ap (λ x. x * up c) p.0, ap (λ x. x * down c) p.0, ap (λ x. x * up c) p.1, ap (λ x. x * down c) p.1, ap (λ x. up a * x) q.0, ap (λ x. down a * x) q.0, ap (λ x. up a * x) q.1, ap (λ x. down a * x) q.1)
-
-commutes : (a b : ℤ) → a *ℤ b ≡ b *ℤ a
-commutes a b = omega (arith, ints)
-
-distributes : (a b c : ℤ) → a *ℤ (b +ℤ c) ≡ a *ℤ b +ℤ a *ℤ c
-distributes a b c =
-    let e = sum_is_lem b c in
-    omega (arith, ints, ap (λ x. up a * x) e, ap (λ x. down a * x) e)
-
 outwards : (a n w : ℤ) → a *ℤ (n *ℤ w) ≡ n *ℤ (a *ℤ w)
-outwards a n w = sym (associates a n w) ∙ ap (λ x. x *ℤ w) (commutes a n) ∙ associates n a w
+outwards a n w = sym (*ℤ_assoc a n w) ∙ ap (λ x. x *ℤ w) (*ℤ_comm a n) ∙ *ℤ_assoc n a w
 
 -- ---- a product with something above 0
-pub mul_positive : (a b : ℤ) → pos 0 <ℤ a → pos 0 <ℤ b → pos 0 <ℤ (a *ℤ b)
-mul_positive (pos a) (pos b) p q =
-    let u : 1 ≤ a = omega (arith, ints) in
-    let v : 1 ≤ b = omega (arith, ints) in
-    omega (arith, ints, mul-le-mul u v)
-mul_positive (negsuc a) b p q = absurd p.lt
-mul_positive (pos a) (negsuc b) p q = absurd q.lt
-
 mul_at_least : (a b : ℤ) → pos 0 <ℤ a → pos 0 <ℤ b → a ≤ℤ (a *ℤ b)
 mul_at_least (pos a) (pos b) p q =
     let u : a ≤ a = omega arith in
@@ -40,7 +20,7 @@ mul_at_least (pos a) (negsuc b) p q = absurd q.lt
 
 pub mul_keeps_below : (a b w : ℤ) → a <ℤ b → pos 0 <ℤ w → (a *ℤ w) <ℤ (b *ℤ w)
 mul_keeps_below a b w p q = joined (a *ℤ w) (b *ℤ w) ((b -ℤ a) *ℤ w) (mul_positive (b -ℤ a) w (above a b p) q)
-    (ap (λ x. x *ℤ w) (rest a b) ∙ commutes (a +ℤ (b -ℤ a)) w ∙ distributes w a (b -ℤ a) ∙ ap₂ (λ x y. x +ℤ y) (commutes w a) (commutes w (b -ℤ a)))
+    (ap (λ x. x *ℤ w) (rest a b) ∙ *ℤ_comm (a +ℤ (b -ℤ a)) w ∙ *ℤ-+ℤ w a (b -ℤ a) ∙ ap₂ (λ x y. x +ℤ y) (*ℤ_comm w a) (*ℤ_comm w (b -ℤ a)))
   where
     above : (a b : ℤ) → a <ℤ b → pos 0 <ℤ (b -ℤ a)
     above a b p = omega (arith, ints)
@@ -54,7 +34,7 @@ mul_keeps_below a b w p q = joined (a *ℤ w) (b *ℤ w) ((b -ℤ a) *ℤ w) (mu
 -- where one is below another, n times it is below by n at least
 apart : (n l c : ℤ) → pos 0 <ℤ n → l <ℤ c → (n *ℤ l +ℤ n) ≤ℤ (n *ℤ c)
 apart n l c p q = joined n (n *ℤ l) (n *ℤ c) (n *ℤ (c -ℤ l)) (mul_at_least n (c -ℤ l) p (above l c q))
-    (ap (λ x. n *ℤ x) (rest l c) ∙ distributes n l (c -ℤ l))
+    (ap (λ x. n *ℤ x) (rest l c) ∙ *ℤ-+ℤ n l (c -ℤ l))
   where
     above : (a b : ℤ) → a <ℤ b → pos 0 <ℤ (b -ℤ a)
     above a b p = omega (arith, ints)
@@ -66,12 +46,6 @@ apart n l c p q = joined n (n *ℤ l) (n *ℤ c) (n *ℤ (c -ℤ l)) (mul_at_lea
     joined n x y z p e = omega (arith, ints)
 
 -- ---- tests
-pub lt_true : (a b : ℤ) → a <ℤ b → int_lt a b ≡ true
-lt_true a b p = grind (arith, ints)
-
-pub lt_false : (a b : ℤ) → b ≤ℤ a → int_lt a b ≡ false
-lt_false a b p = grind (arith, ints)
-
 pub le_true : (a b : ℤ) → a ≤ℤ b → int_le a b ≡ true
 le_true a b p = grind (arith, ints)
 
@@ -81,8 +55,8 @@ le_false a b p = grind (arith, ints)
 -- ---- a neighbour of c, where c is not l
 le_apart : (n l c s : ℤ) → pos 0 <ℤ n → neg_ℤ n <ℤ s → s <ℤ n → c ≢ l → int_le (n *ℤ l) (n *ℤ c +ℤ s) ≡ int_lt l c
 le_apart n l c s p r q e = by_lt_z l c
-    (λ h. le_true (n *ℤ l) (n *ℤ c +ℤ s) (upper n (n *ℤ l) (n *ℤ c) s r (apart n l c p h)) ∙ sym (lt_true l c h))
-    (λ h. le_false (n *ℤ l) (n *ℤ c +ℤ s) (lower n (n *ℤ l) (n *ℤ c) s q (apart n c l p (below l c h e))) ∙ sym (lt_false l c h))
+    (λ h. le_true (n *ℤ l) (n *ℤ c +ℤ s) (upper n (n *ℤ l) (n *ℤ c) s r (apart n l c p h)) ∙ sym (test_true l c h))
+    (λ h. le_false (n *ℤ l) (n *ℤ c +ℤ s) (lower n (n *ℤ l) (n *ℤ c) s q (apart n c l p (below l c h e))) ∙ sym (test_false l c h))
   where
     below : (l c : ℤ) → c ≤ℤ l → c ≢ l → c <ℤ l
     below l c h e = omega (arith, ints)
@@ -95,8 +69,8 @@ le_apart n l c s p r q e = by_lt_z l c
 
 lt_apart : (n l c s : ℤ) → pos 0 <ℤ n → neg_ℤ n <ℤ s → s <ℤ n → c ≢ l → int_lt (n *ℤ c +ℤ s) (n *ℤ l) ≡ int_lt c l
 lt_apart n l c s p r q e = by_lt_z c l
-    (λ h. lt_true (n *ℤ c +ℤ s) (n *ℤ l) (lower n (n *ℤ l) (n *ℤ c) s q (apart n c l p h)) ∙ sym (lt_true c l h))
-    (λ h. lt_false (n *ℤ c +ℤ s) (n *ℤ l) (upper n (n *ℤ l) (n *ℤ c) s r (apart n l c p (above l c h e))) ∙ sym (lt_false c l h))
+    (λ h. test_true (n *ℤ c +ℤ s) (n *ℤ l) (lower n (n *ℤ l) (n *ℤ c) s q (apart n c l p h)) ∙ sym (test_true c l h))
+    (λ h. test_false (n *ℤ c +ℤ s) (n *ℤ l) (upper n (n *ℤ l) (n *ℤ c) s r (apart n l c p (above l c h e))) ∙ sym (test_false c l h))
   where
     above : (l c : ℤ) → l ≤ℤ c → c ≢ l → l <ℤ c
     above l c h e = omega (arith, ints)
@@ -135,7 +109,7 @@ module _ (n low high c w s : ℤ) (p : pos 0 <ℤ n) (small : IsSmall n s) where
   pub low_above : c ≡ low *ℤ w → c <ℤ (high *ℤ w) → pos 0 ≤ℤ s → is_between low high (n *ℤ c +ℤ s) (n *ℤ w) ≡ true
   low_above e h q = ap₂ (λ x y. x && y)
       (le_true (low *ℤ (n *ℤ w)) (n *ℤ c +ℤ s) (upper (n *ℤ c) (low *ℤ (n *ℤ w)) s (at_low e) q))
-      (ap (λ x. int_lt (n *ℤ c +ℤ s) x) (outwards high n w) ∙ lt_apart n (high *ℤ w) c s p small.above small.below (other c (high *ℤ w) h) ∙ lt_true c (high *ℤ w) h)
+      (ap (λ x. int_lt (n *ℤ c +ℤ s) x) (outwards high n w) ∙ lt_apart n (high *ℤ w) c s p small.above small.below (other c (high *ℤ w) h) ∙ test_true c (high *ℤ w) h)
     where
       upper : (x y s : ℤ) → x ≡ y → pos 0 ≤ℤ s → y ≤ℤ (x +ℤ s)
       upper x y s e q = omega (arith, ints)
@@ -154,8 +128,8 @@ module _ (n low high c w s : ℤ) (p : pos 0 <ℤ n) (small : IsSmall n s) where
   -- below the high end
   pub high_below : c ≡ high *ℤ w → (low *ℤ w) <ℤ c → s <ℤ pos 0 → is_between low high (n *ℤ c +ℤ s) (n *ℤ w) ≡ true
   high_below e h q = ap₂ (λ x y. x && y)
-      (ap (λ x. int_le x (n *ℤ c +ℤ s)) (outwards low n w) ∙ le_apart n (low *ℤ w) c s p small.above small.below (other (low *ℤ w) c h) ∙ lt_true (low *ℤ w) c h)
-      (lt_true (n *ℤ c +ℤ s) (high *ℤ (n *ℤ w)) (lower (n *ℤ c) (high *ℤ (n *ℤ w)) s (at_high e) q))
+      (ap (λ x. int_le x (n *ℤ c +ℤ s)) (outwards low n w) ∙ le_apart n (low *ℤ w) c s p small.above small.below (other (low *ℤ w) c h) ∙ test_true (low *ℤ w) c h)
+      (test_true (n *ℤ c +ℤ s) (high *ℤ (n *ℤ w)) (lower (n *ℤ c) (high *ℤ (n *ℤ w)) s (at_high e) q))
     where
       lower : (x y s : ℤ) → x ≡ y → s <ℤ pos 0 → (x +ℤ s) <ℤ y
       lower x y s e q = omega (arith, ints)
@@ -166,7 +140,7 @@ module _ (n low high c w s : ℤ) (p : pos 0 <ℤ n) (small : IsSmall n s) where
   -- above the high end
   pub high_above : c ≡ high *ℤ w → pos 0 ≤ℤ s → is_between low high (n *ℤ c +ℤ s) (n *ℤ w) ≡ false
   high_above e q = ap (λ x. int_le (low *ℤ (n *ℤ w)) (n *ℤ c +ℤ s) && x)
-      (lt_false (n *ℤ c +ℤ s) (high *ℤ (n *ℤ w)) (upper (n *ℤ c) (high *ℤ (n *ℤ w)) s (at_high e) q))
+      (test_false (n *ℤ c +ℤ s) (high *ℤ (n *ℤ w)) (upper (n *ℤ c) (high *ℤ (n *ℤ w)) s (at_high e) q))
       ∙ never (int_le (low *ℤ (n *ℤ w)) (n *ℤ c +ℤ s))
     where
       upper : (x y s : ℤ) → x ≡ y → pos 0 ≤ℤ s → y ≤ℤ (x +ℤ s)
@@ -180,7 +154,7 @@ module _ (n low high c w s : ℤ) (p : pos 0 <ℤ n) (small : IsSmall n s) where
 pub nothing_between : (low high c w : ℤ) → low ≡ high → is_between low high c w ≡ false
 nothing_between low high c w e = by_lt_z c (low *ℤ w)
     (λ h. ap (λ x. x && int_lt c (high *ℤ w)) (le_false (low *ℤ w) c h))
-    (λ h. ap (λ x. int_le (low *ℤ w) c && x) (lt_false c (high *ℤ w) (same (low *ℤ w) (high *ℤ w) c (ap (λ x. x *ℤ w) e) h)) ∙ never (int_le (low *ℤ w) c))
+    (λ h. ap (λ x. int_le (low *ℤ w) c && x) (test_false c (high *ℤ w) (same (low *ℤ w) (high *ℤ w) c (ap (λ x. x *ℤ w) e) h)) ∙ never (int_le (low *ℤ w) c))
   where
     same : (x y c : ℤ) → x ≡ y → x ≤ℤ c → y ≤ℤ c
     same x y c e h = omega (arith, ints)

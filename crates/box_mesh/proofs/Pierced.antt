@@ -8,9 +8,9 @@ use Rattle.spec_solid.specs.Triangles.{Triangle, differ, passes_above, turn, is_
 use Rattle.spec_solid.specs.Solids.{pierces_oddly}
 use Rattle.spec_solid.specs.Extrusions.{face_triangles}
 use Rattle.box_mesh.specs.Boxes.{place, quadrilateral}
-use Rattle.box_mesh.proofs.Ring.{var, ◌⊕◌, ◌⊗◌, ◌⊖◌, ring}
-use Rattle.box_mesh.proofs.Signs.{mul_positive, square_positive}
-use Rattle.box_mesh.proofs.Tests.{sign_scaled, sign_of_difference}
+use Rattle.integer_laws.proofs.Ring.{var, ◌⊕◌, ◌⊗◌, ◌⊖◌, ring}
+use Rattle.integer_laws.proofs.Signs.{mul_positive, square_positive}
+use Rattle.box_mesh.proofs.Orders.{sign_scaled, sign_of_difference}
 use Rattle.box_mesh.proofs.Edges.{passes_back, upright_edge, level_edge}
 use Rattle.box_mesh.proofs.Fans.{triangle, fan_of_four}
 

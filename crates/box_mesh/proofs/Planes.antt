@@ -17,7 +17,9 @@ use Rattle.box_mesh.specs.Printed.{plane_of, left, front, bottom, box_sides}
 use Rattle.box_mesh.specs.Ranges.{AreSteps}
 use Rattle.box_mesh.proofs.BoxPlanes as kind
 use Rattle.box_mesh.proofs.BoxPlanes.{side_x, side_y, side_z, IsSlanted, IsBoxPlane}
-use Rattle.box_mesh.proofs.Factors.{product_assoc, product_comm, negative_product, zero_left, zero_right, same_difference, first_second, second_first, size_factor, size_one, size_positive, positive_product, cancel_zero, cancel_factor}
+use Rattle.integer_laws.proofs.Ring.{*ℤ_assoc, *ℤ_comm, neg_ℤ-*ℤ}
+use Rattle.integer_laws.proofs.Signs.{mul_positive}
+use Rattle.integer_laws.proofs.Products.{zero_left, zero_right, same_difference, first_second, second_first, size_factor, size_one, size_positive, cancel_zero, cancel_factor}
 use Rattle.box_mesh.proofs.Members.{triangle_of, each_of_shell, plane_of_shell, own_planes, has_own, none_upright, no_others, four_triangles, first_upright, last_upright}
 
 -- ---- the planes of the triangles, before reduction: many times a side, or slanted
@@ -67,7 +69,7 @@ first_term u x v y e = dropped (u *ℤ x) (v *ℤ y) (zero_left v y e)
     dropped p q e = omega (arith, ints)
 
 second_term : (u x v y : ℤ) → u ≡ pos 0 → u *ℤ x -ℤ v *ℤ y ≡ neg_ℤ v *ℤ y
-second_term u x v y e = dropped (u *ℤ x) (v *ℤ y) (zero_left u x e) ∙ sym (negative_product v y)
+second_term u x v y e = dropped (u *ℤ x) (v *ℤ y) (zero_left u x e) ∙ sym (neg_ℤ-*ℤ v y)
   where
     dropped : (p q : ℤ) → p ≡ pos 0 → p -ℤ q ≡ neg_ℤ q
     dropped p q e = omega (arith, ints)
@@ -136,7 +138,7 @@ gone m k h n e z = cancel_zero m h n (sym e ∙ z)
 
 -- the level is the same before and after
 level : (m k h c d e : ℤ) → m ≢ pos 0 → k ≡ m *ℤ h → d ≡ m *ℤ e → d ≡ k *ℤ c → e ≡ h *ℤ c
-level m k h c d e n p q r = cancel_factor m e (h *ℤ c) n (sym q ∙ r ∙ ap (λ x. x *ℤ c) p ∙ product_assoc m h c)
+level m k h c d e n p q r = cancel_factor m e (h *ℤ c) n (sym q ∙ r ∙ ap (λ x. x *ℤ c) p ∙ *ℤ_assoc m h c)
 
 times_zero : (h a : ℤ) → a ≡ pos 0 → a ≡ h *ℤ pos 0
 times_zero h a e = omega (arith, ints)
@@ -316,7 +318,7 @@ least m a e =
     exact (unsigned_abs m) (unsigned_abs (a *ℤ m))
     (size_positive m (λ z. one_runs (e ∙ zero_left m a z)))
     (size_factor a m (λ z. one_runs (e ∙ zero_right m a z)))
-    (ap unsigned_abs (product_comm a m ∙ sym e))
+    (ap unsigned_abs (*ℤ_comm a m ∙ sym e))
   where
     one_runs : pos 1 ≢ pos 0
     one_runs e = omega (arith, ints)
@@ -369,7 +371,7 @@ runs_by : (u v : ℤ) → pos 0 <ℤ u → v ≡ pos 0 → u -ℤ v ≢ pos 0
 runs_by u v p e f = omega (arith, ints)
 
 area_positive : (x1 x2 y1 y2 : ℤ) → x1 <ℤ x2 → y1 <ℤ y2 → pos 0 <ℤ ((x2 -ℤ x1) *ℤ (y2 -ℤ y1))
-area_positive x1 x2 y1 y2 p q = positive_product (x2 -ℤ x1) (y2 -ℤ y1) (above_none x1 x2 p) (above_none y1 y2 q)
+area_positive x1 x2 y1 y2 p q = mul_positive (x2 -ℤ x1) (y2 -ℤ y1) (above_none x1 x2 p) (above_none y1 y2 q)
 
 first_turn : (x1 x2 y1 y2 : ℤ) → x1 <ℤ x2 → y1 <ℤ y2 → (x2 -ℤ x1) *ℤ (y2 -ℤ y1) -ℤ (y1 -ℤ y1) *ℤ (x2 -ℤ x1) ≢ pos 0
 first_turn x1 x2 y1 y2 p q = runs_by ((x2 -ℤ x1) *ℤ (y2 -ℤ y1)) ((y1 -ℤ y1) *ℤ (x2 -ℤ x1)) (area_positive x1 x2 y1 y2 p q) (zero_left (y1 -ℤ y1) (x2 -ℤ x1) (same_difference y1))

@@ -11,7 +11,8 @@ use Rattle.spec_page.specs.Element.{Face}
 use Rattle.spec_page.specs.Faces.{lies_on, faces_at}
 use Rattle.box_mesh.specs.Printed.{left, right, front, back, bottom, top, box_element}
 use Rattle.box_mesh.proofs.BoxPlanes.{side_x, side_y, side_z}
-use Rattle.box_mesh.proofs.Neighbours.{lt_true, lt_false, is_strictly_between}
+use Rattle.box_mesh.proofs.Orders.{test_true, test_false}
+use Rattle.box_mesh.proofs.Neighbours.{is_strictly_between}
 
 -- ---- values
 negated : (a b : ℤ) → neg_ℤ a *ℤ b ≡ neg_ℤ (a *ℤ b)
@@ -51,8 +52,8 @@ module _ (low : Vector) (p : Point) where
 -- ---- tests of values
 below_low : (v l c : ℤ) → v ≡ l -ℤ c → int_lt v (pos 0) ≡ int_lt l c
 below_low v l c e = by_lt_z l c
-    (λ h. lt_true v (pos 0) (first v l c e h) ∙ sym (lt_true l c h))
-    (λ h. lt_false v (pos 0) (second v l c e h) ∙ sym (lt_false l c h))
+    (λ h. test_true v (pos 0) (first v l c e h) ∙ sym (test_true l c h))
+    (λ h. test_false v (pos 0) (second v l c e h) ∙ sym (test_false l c h))
   where
     first : (v l c : ℤ) → v ≡ l -ℤ c → l <ℤ c → v <ℤ pos 0
     first v l c e h = omega (arith, ints)

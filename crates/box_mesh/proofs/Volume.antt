@@ -5,8 +5,8 @@ use Rattle.spec_space.specs.declared.Vector.{Vector}
 use Rattle.spec_page.specs.World.{printed_volume, within_128_bits}
 use Rattle.box_mesh.specs.Printed.{box_volume, box_element}
 use Rattle.box_mesh.specs.Ranges.{AreSteps}
-use Rattle.box_mesh.proofs.Ring.{Expr, var, con, ◌⊕◌, ◌⊖◌, ◌⊗◌, ring}
-use Rattle.box_mesh.proofs.Sizes.{size_mul}
+use Rattle.integer_laws.proofs.Ring.{Expr, var, con, ◌⊕◌, ◌⊖◌, ◌⊗◌, ring}
+use Rattle.integer_laws.proofs.Sizes.{size_mul}
 
 -- ---- the definitions of the volume again, over expressions, for the normaliser
 

@@ -3,6 +3,8 @@
 
 mod bounds;
 mod mesh;
+#[cfg(test)]
+mod tests;
 
 pub use bounds::Bounds;
 pub use mesh::{BoxMesh, Quad, make_mesh};

@@ -6,7 +6,8 @@ ghost use Rattle.spec_outside.specs.Causes.{HasCause};
 
 use crate::fault::Failed;
 
-/// What takes bytes.
+/// What takes bytes. It means the bytes that it holds, where it tells them, and a count of faults
+/// that never falls and stays at 2^64 - 1 once it has it.
 pub trait Sink {
     /// The bytes that it holds, where it tells them.
     ghost held: { Self → Option (List ℕ) };
@@ -14,7 +15,12 @@ pub trait Sink {
     /// How often it failed.
     ghost faults: { Self → ℕ };
 
-    /// Appends a front part of the piece, and answers its length.
+    /// Appends a front part of the piece, and answers its length, which is 0 for an empty piece
+    /// alone.
+    ///
+    /// # Errors
+    ///
+    /// Only where the count of faults rose, and then nothing was appended.
     fn put(&mut self, piece: &[u8]) -> Result<usize, Failed>
         ensures bound { WritesAtMost result piece.now }
         ensures bytes { WriteAppends (held self.old) (held self.new) result piece.now }

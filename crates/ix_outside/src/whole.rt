@@ -7,7 +7,13 @@ use crate::sink::Sink;
 use crate::source::Source;
 use std::alloc::Global;
 
-/// Reads a source to its end.
+/// Reads a source to its end: all bytes that it had, of which there are at most `limit`. Each turn
+/// takes at least one byte or ends.
+///
+/// # Errors
+///
+/// `Fault` only where the source's count of faults rose. `TooLarge` only where the source had more
+/// than `limit` bytes, if it tells them. `NoMemory`. The bytes taken so far are lost then.
 pub fn read_whole<S: Source>(alloc: Global, src: &mut S, limit: usize) -> Result<Vec<u8>, TakeFault>
     requires { limit ≤ 2 ^ 27 }
     // All bytes up to the end, within the limit.
@@ -39,7 +45,12 @@ pub fn read_whole<S: Source>(alloc: Global, src: &mut S, limit: usize) -> Result
     }
 }
 
-/// Puts a whole text.
+/// Puts a whole text to a sink. It takes no memory of its own.
+///
+/// # Errors
+///
+/// Only where the sink's count of faults rose. The sink holds its old bytes and a front of the
+/// text then.
 pub fn write_whole<O: Sink>(out: &mut O, text: &[u8]) -> Result<(), WriteFault>
     ensures ok { OnOk result (Appends (O.held out.old) (O.held out.new) text.now) }
     ensures front { AppendsFront (O.held out.old) (O.held out.new) text.now }

@@ -1,7 +1,7 @@
 use Rattle.std.proofs.Common.{FitsSigned, ◌≤◌, ◌*◌, ◌^◌, ◌*ℤ◌, pos, unsigned_abs, arith, refl, lit<}
 use Rattle.std.proofs.lemmas.Int.{to_z-of_z, ints}
 use mir.Syntax.{w128}
-use Rattle.box_mesh.proofs.Sizes.{size_mul, fits_by_size}
+use Rattle.integer_laws.proofs.Sizes.{size_mul, fits_by_size}
 use Rattle.box_mesh.proofs.mesh.sixfold.Goals as goal
 
 pub overflow_mul-result-2 : goal.overflow_mul-result-2

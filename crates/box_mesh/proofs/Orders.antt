@@ -2,7 +2,7 @@
 use Rattle.std.proofs.Common.{◌≡◌, ℤ, pos, ◌*ℤ◌, ◌-ℤ◌, ◌<ℤ◌, ◌≤ℤ◌, int_lt, int_le, Bool, true, false, not, ◌&&◌, arith, ap, ◌∙◌, refl, sym}
 use Rattle.std.proofs.lemmas.Int.{ints, by_lt_z}
 use Rattle.spec_solid.specs.Triangles.{differ}
-use Rattle.box_mesh.proofs.Signs.{mul_negative, mul_nonneg}
+use Rattle.integer_laws.proofs.Signs.{mul_negative, mul_nonneg}
 
 pub test_true : (a b : ℤ) → a <ℤ b → int_lt a b ≡ true
 test_true a b h = by (int_lt a b) refl

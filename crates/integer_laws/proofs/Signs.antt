@@ -1,7 +1,7 @@
 -- Signs of products of whole numbers.
 use Rattle.std.proofs.Common.{◌≡◌, ℕ, zero, suc, ◌<◌, ℤ, pos, negsuc, ◌*ℤ◌, ◌-ℤ◌, ◌<ℤ◌, ◌≤ℤ◌, arith, refl, subst, mul-pos, ◌∷◌, []}
 use Rattle.std.proofs.lemmas.Int.{ints, by_lt_z}
-use Rattle.box_mesh.proofs.Ring.{var, ◌⊗◌, ◌⊖◌, ring}
+use Rattle.integer_laws.proofs.Ring.{var, ◌⊗◌, ◌⊖◌, ring}
 
 pub mul_positive : (a b : ℤ) → pos 0 <ℤ a → pos 0 <ℤ b → pos 0 <ℤ (a *ℤ b)
 mul_positive (pos a) (pos b) p q = let u : 0 < a = omega (arith, ints) in let v : 0 < b = omega (arith, ints) in omega (arith, ints, mul-pos u v)

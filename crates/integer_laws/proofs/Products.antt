@@ -1,27 +1,8 @@
--- Products of whole numbers: the laws, products with 0, and cancelling a factor that is not 0.
-use Rattle.std.proofs.Common.{◌≡◌, ℕ, zero, suc, ◌*◌, ◌<◌, ◌≤◌, ℤ, pos, negsuc, ◌+ℤ◌, ◌*ℤ◌, ◌-ℤ◌, neg_ℤ, ◌<ℤ◌, unsigned_abs, arith, ap, ◌∙◌, refl, mul-pos, mul-le-mul}
+-- Products of whole numbers: products with 0, sizes, and cancelling a factor that is not 0.
+use Rattle.std.proofs.Common.{◌≡◌, ℕ, zero, suc, ◌*◌, ◌≤◌, ℤ, pos, negsuc, ◌+ℤ◌, ◌*ℤ◌, ◌-ℤ◌, neg_ℤ, ◌<ℤ◌, unsigned_abs, arith, ap, ◌∙◌, refl, mul-le-mul}
 use Rattle.std.specs.Prelude.{◌≢◌}
 use Rattle.std.proofs.lemmas.Int.{ints, unsigned_abs-mul}
-use borrow.Author.Differences.{up, down, sum_is_lem, neg_is, product_is}
-
-pub product_assoc : (a b c : ℤ) → (a *ℤ b) *ℤ c ≡ a *ℤ (b *ℤ c)
-product_assoc a b c =
-    let p = product_is a b in
-    let q = product_is b c in
-    omega (arith, ints, ap (λ x. x * up c) p.0, ap (λ x. x * down c) p.0, ap (λ x. x * up c) p.1, ap (λ x. x * down c) p.1, ap (λ x. up a * x) q.0, ap (λ x. down a * x) q.0, ap (λ x. up a * x) q.1, ap (λ x. down a * x) q.1)
-
-pub product_comm : (a b : ℤ) → a *ℤ b ≡ b *ℤ a
-product_comm a b = omega (arith, ints)
-
-pub product_sum : (a b c : ℤ) → a *ℤ (b +ℤ c) ≡ a *ℤ b +ℤ a *ℤ c
-product_sum a b c =
-    let e = sum_is_lem b c in
-    omega (arith, ints, ap (λ x. up a * x) e, ap (λ x. down a * x) e)
-
-pub negative_product : (a b : ℤ) → neg_ℤ a *ℤ b ≡ neg_ℤ (a *ℤ b)
-negative_product a b =
-    let e = neg_is a in
-    omega (arith, ints, ap (λ x. x * up b) e.0, ap (λ x. x * down b) e.0, ap (λ x. x * up b) e.1, ap (λ x. x * down b) e.1)
+use Rattle.integer_laws.proofs.Ring.{*ℤ_comm, *ℤ-+ℤ, neg_ℤ-*ℤ}
 
 -- ---- 0
 pub zero_left : (a b : ℤ) → a ≡ pos 0 → a *ℤ b ≡ pos 0
@@ -54,12 +35,6 @@ second_first a x y d = zero_difference (a *ℤ (x -ℤ x)) ((y -ℤ y) *ℤ d) (
 
 pub first_second : (x b c y : ℤ) → (x -ℤ x) *ℤ b -ℤ c *ℤ (y -ℤ y) ≡ pos 0
 first_second x b c y = zero_difference ((x -ℤ x) *ℤ b) (c *ℤ (y -ℤ y)) (zero_left (x -ℤ x) b (same_difference x)) (zero_right c (y -ℤ y) (same_difference y))
-
--- ---- signs
-pub positive_product : (a b : ℤ) → pos 0 <ℤ a → pos 0 <ℤ b → pos 0 <ℤ (a *ℤ b)
-positive_product (pos a) (pos b) p q = let u : 0 < a = omega (arith, ints) in let v : 0 < b = omega (arith, ints) in omega (arith, ints, mul-pos u v)
-positive_product (negsuc a) b p q = absurd p.lt
-positive_product (pos a) (negsuc b) p q = absurd q.lt
 
 -- ---- sizes
 pub size_zero : (a : ℤ) → unsigned_abs a ≡ 0 → a ≡ pos 0
@@ -95,7 +70,7 @@ cancel_factor m a b h e = same a b (cancel_zero m (a -ℤ b) h (apart m a b e))
     ends x y e = omega (arith, ints)
 
     apart : (m a b : ℤ) → m *ℤ a ≡ m *ℤ b → m *ℤ (a -ℤ b) ≡ pos 0
-    apart m a b e = product_sum m a (neg_ℤ b) ∙ ap (λ x. m *ℤ a +ℤ x) (product_comm m (neg_ℤ b) ∙ negative_product b m ∙ ap neg_ℤ (product_comm b m)) ∙ ends (m *ℤ a) (m *ℤ b) e
+    apart m a b e = *ℤ-+ℤ m a (neg_ℤ b) ∙ ap (λ x. m *ℤ a +ℤ x) (*ℤ_comm m (neg_ℤ b) ∙ neg_ℤ-*ℤ b m ∙ ap neg_ℤ (*ℤ_comm b m)) ∙ ends (m *ℤ a) (m *ℤ b) e
 
     same : (a b : ℤ) → a -ℤ b ≡ pos 0 → a ≡ b
     same a b e = omega (arith, ints)

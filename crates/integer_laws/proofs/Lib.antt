@@ -1,0 +1,4 @@
+pub mod Ring
+pub mod Signs
+pub mod Products
+pub mod Sizes
