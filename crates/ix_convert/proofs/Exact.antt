@@ -1,10 +1,12 @@
 -- What is found in an input decides the status.
-use Rattle.std.proofs.Common.{◌≡◌, ℕ, ◌<◌, ◌≤◌, List, length, true, false, Option, Some, None, IfSome, ◌⊎◌, inl, inr, sym, ◌∙◌, subst, arith}
+use Rattle.std.proofs.Common.{◌≡◌, ℕ, ◌<◌, ◌≤◌, List, [], ◌∷◌, length, true, false, Option, Some, None, IfSome, ◌⊎◌, inl, inr, sym, ◌∙◌, subst, arith}
 use Rattle.std.proofs.lemmas.Bool.{true≢false}
 use Rattle.spec_step.specs.declared.token.Span.{Span}
 use Rattle.spec_step.specs.Form.{box_form, HasForm}
 use Rattle.spec_run.specs.Words.{names_convert}
-use Rattle.spec_run.specs.Inputs.{most_bytes, first_wrong, IsNotBuilt, IsBox}
+use Rattle.spec_run.specs.Inputs.{most_bytes, first_wrong, IsNotBuilt, IsBox, IsElementOf}
+use Rattle.spec_page.specs.Element.{Element}
+use Rattle.spec_page.specs.Page.{page_text}
 use Rattle.spec_run.specs.Runs.{IsFound, IsNumbered}
 use Rattle.spec_run.specs.declared.Outcome.{Outcome}
 use Rattle.spec_run.specs.declared.Outcome.TheVariants.{Page, NotBuilt, TooLarge, ReadFault, NoMemory, Usage}
@@ -84,3 +86,43 @@ pub without_memory : (words : List (List ℕ)) (known : Option (List ℕ)) (page
     → IfSome known (λ given. IsFound words given page o) → P NoMemory → IfSome known (λ given. (x : Outcome) × IsFound words given page x × P x)
 without_memory words None page o P numbered found p = tt
 without_memory words (Some given) page o P numbered found p = (NoMemory, wants_convert words given page o numbered found, p)
+
+-- the one element of the page of a run that is done
+abbrev pub HasElement : List ℕ → List ℕ → Type 0
+HasElement given page =
+    (numbers : List Span) × (e : Element) × IsBox given numbers × IsElementOf given numbers e × (page ≡ page_text 1000 (e ∷ []))
+
+-- a status that is another one, or a fault of writing, is not that of a run that is done
+not_done : (due result : Status) → (due ≡ status.Done → ⊥) → (result ≡ due) ⊎ (result ≡ status.WriteFault) → result ≡ status.Done → ⊥
+not_done due result other (inl e) done = other (sym e ∙ done)
+not_done due result other (inr fault) done = written (sym fault ∙ done)
+  where
+    written : status.WriteFault ≡ status.Done → ⊥
+    written e = cc
+
+refused_not_done : status.FileRefused ≡ status.Done → ⊥
+refused_not_done e = cc
+
+unread_not_done : status.ReadFault ≡ status.Done → ⊥
+unread_not_done e = cc
+
+wanting_not_done : status.NoMemory ≡ status.Done → ⊥
+wanting_not_done e = cc
+
+usage_not_done : status.Usage ≡ status.Done → ⊥
+usage_not_done e = cc
+
+element_by : (words : List (List ℕ)) (given page : List ℕ) (o : Outcome) (result : Status)
+    → IsFound words given page o → (result ≡ status_of o) ⊎ (result ≡ status.WriteFault) → result ≡ status.Done → HasElement given page
+element_by words given page (Page corners faces) result found ends done = (found.1.0, found.1.1, found.1.2, found.1.3, found.1.4)
+element_by words given page (NotBuilt place) result found ends done = absurd (not_done status.FileRefused result refused_not_done ends done)
+element_by words given page TooLarge result found ends done = absurd (not_done status.FileRefused result refused_not_done ends done)
+element_by words given page ReadFault result found ends done = absurd (not_done status.ReadFault result unread_not_done ends done)
+element_by words given page NoMemory result found ends done = absurd (not_done status.NoMemory result wanting_not_done ends done)
+element_by words given page Usage result found ends done = absurd (not_done status.Usage result usage_not_done ends done)
+
+pub element_of_run : (words : List (List ℕ)) (known : Option (List ℕ)) (page : List ℕ) (o : Outcome) (result : Status)
+    → IfSome known (λ given. IsFound words given page o) → (result ≡ status_of o) ⊎ (result ≡ status.WriteFault)
+    → result ≡ status.Done → IfSome known (λ given. HasElement given page)
+element_of_run words None page o result found ends done = tt
+element_of_run words (Some given) page o result found ends done = element_by words given page o result found ends done

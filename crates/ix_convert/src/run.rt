@@ -1,10 +1,12 @@
-ghost use Rattle.std.specs.Prelude.{◌≡◌, ◌≢◌, ℕ, ◌<◌, ◌≤◌, ◌⊎◌, List, [], length, map, true, false, IfSome, IsOk, OnOk, OnErr, string_bytes};
+ghost use Rattle.std.specs.Prelude.{◌≡◌, ◌≢◌, ℕ, ◌<◌, ◌≤◌, ◌⊎◌, List, [], ◌∷◌, length, map, true, false, IfSome, IsOk, OnOk, OnErr, string_bytes};
 ghost use Rattle.std.specs.Io.KnownBytes.{Appends};
 ghost use Rattle.spec_outside.specs.Causes.{Rose, AppendsFront};
 ghost use Rattle.spec_step.specs.declared.Span.{Span};
 ghost use Rattle.spec_run.specs.declared.Outcome.{Outcome};
 ghost use Rattle.spec_run.specs.Words.{names_convert};
-ghost use Rattle.spec_run.specs.Inputs.{most_bytes, IsNotBuilt, IsBox};
+ghost use Rattle.spec_run.specs.Inputs.{most_bytes, IsNotBuilt, IsBox, IsElementOf};
+ghost use Rattle.spec_page.specs.Element.{Element};
+ghost use Rattle.spec_page.specs.Page.{page_text};
 ghost use Rattle.spec_run.specs.Reports.{report_of};
 ghost use Rattle.spec_run.specs.Runs.{IsFound, IsPage};
 ghost use Rattle.ix_convert.specs.Statuses.{status_of, Yields, IsRefusal};
@@ -111,6 +113,10 @@ pub fn convert_run<S: Source, O: Sink, R: Sink>(
         × IsWritten o result (O.held out.old) (O.held out.new) page.new.items (R.held rep.old) (R.held rep.new)) }
     ensures written { (o : Outcome)
         × IsWritten o result (O.held out.old) (O.held out.new) page.new.items (R.held rep.old) (R.held rep.new) }
+
+    // A page that is done is the text of the file's element, with all that is promised of it.
+    ensures headline { result ≡ Status.Done → IfSome (S.left src.old) (λ given. (numbers : List Span) × (e : Element)
+        × IsBox given numbers × IsElementOf given numbers e × (page.new.items ≡ page_text 1000 (e ∷ []))) }
 
     // Faults of the source and of the sinks.
     ensures read_fault { result ≡ Status.ReadFault → Rose (S.faults src.old) (S.faults src.new) }
