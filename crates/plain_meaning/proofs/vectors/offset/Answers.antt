@@ -1,0 +1,7 @@
+use Rattle.plain_meaning.proofs.Numbers.{arg, again, difference, product}
+use Rattle.plain_meaning.proofs.vectors.offset.Goals as goal
+
+pub returns : goal.returns
+returns c =
+    let moved = again (product (arg c.args.place c.requires.place tt) (arg c.args.weight c.requires.weight tt)) tt in
+    (again (difference (arg c.args.steps c.requires.steps tt) moved) tt).is

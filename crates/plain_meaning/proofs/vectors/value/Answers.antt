@@ -1,0 +1,37 @@
+use Rattle.plain_meaning.proofs.Numbers.{arg, again, sum, difference, product, fits}
+use Rattle.plain_meaning.proofs.vectors.value.Goals as goal
+
+pub overflow_add-result : goal.overflow_add-result
+overflow_add-result c =
+    let ax = again (product (arg c.args.plane.now.a c.requires.plane.a tt) (arg c.args.point.now.x c.requires.point.x tt)) tt in
+    let by = again (product (arg c.args.plane.now.b c.requires.plane.b tt) (arg c.args.point.now.y c.requires.point.y tt)) tt in
+    fits (sum ax by) tt
+
+pub overflow_mul-result-3 : goal.overflow_mul-result-3
+overflow_mul-result-3 c = fits (product (arg c.args.plane.now.c c.requires.plane.c tt) (arg c.args.point.now.z c.requires.point.z tt)) tt
+
+pub overflow_mul-result-4 : goal.overflow_mul-result-4
+overflow_mul-result-4 c = fits (product (arg c.args.plane.now.d c.requires.plane.d tt) (arg c.args.point.now.w c.requires.point.w tt)) tt
+
+pub overflow_add-result-2 : goal.overflow_add-result-2
+overflow_add-result-2 c =
+    let ax = again (product (arg c.args.plane.now.a c.requires.plane.a tt) (arg c.args.point.now.x c.requires.point.x tt)) tt in
+    let by = again (product (arg c.args.plane.now.b c.requires.plane.b tt) (arg c.args.point.now.y c.requires.point.y tt)) tt in
+    let cz = again (product (arg c.args.plane.now.c c.requires.plane.c tt) (arg c.args.point.now.z c.requires.point.z tt)) tt in
+    fits (sum (again (sum ax by) tt) cz) tt
+
+pub overflow_sub-result : goal.overflow_sub-result
+overflow_sub-result c =
+    let ax = again (product (arg c.args.plane.now.a c.requires.plane.a tt) (arg c.args.point.now.x c.requires.point.x tt)) tt in
+    let by = again (product (arg c.args.plane.now.b c.requires.plane.b tt) (arg c.args.point.now.y c.requires.point.y tt)) tt in
+    let cz = again (product (arg c.args.plane.now.c c.requires.plane.c tt) (arg c.args.point.now.z c.requires.point.z tt)) tt in
+    let dw = again (product (arg c.args.plane.now.d c.requires.plane.d tt) (arg c.args.point.now.w c.requires.point.w tt)) tt in
+    fits (difference (again (sum (again (sum ax by) tt) cz) tt) dw) tt
+
+pub returns : goal.returns
+returns c =
+    let ax = again (product (arg c.args.plane.now.a c.requires.plane.a tt) (arg c.args.point.now.x c.requires.point.x tt)) tt in
+    let by = again (product (arg c.args.plane.now.b c.requires.plane.b tt) (arg c.args.point.now.y c.requires.point.y tt)) tt in
+    let cz = again (product (arg c.args.plane.now.c c.requires.plane.c tt) (arg c.args.point.now.z c.requires.point.z tt)) tt in
+    let dw = again (product (arg c.args.plane.now.d c.requires.plane.d tt) (arg c.args.point.now.w c.requires.point.w tt)) tt in
+    (again (difference (again (sum (again (sum ax by) tt) cz) tt) dw) tt).is
