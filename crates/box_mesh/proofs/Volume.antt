@@ -2,7 +2,8 @@
 use Rattle.std.proofs.Common.{◌≡◌, ◌*◌, ◌^◌, ◌≤◌, ℤ, pos, neg_ℤ, ◌-ℤ◌, ◌*ℤ◌, unsigned_abs, true, [], ◌∷◌, refl, sym, ap, ◌∙◌, arith, int_le, int_lt, Some}
 use Rattle.std.proofs.lemmas.Int.{ints}
 use Rattle.spec_space.specs.declared.Vector.{Vector}
-use Rattle.spec_page.specs.World.{printed_volume, within_128_bits}
+use Rattle.spec_page.specs.World.{printed_volume}
+use Rattle.spec_num.specs.Words.{within_128_bits}
 use Rattle.box_mesh.specs.Printed.{box_volume, box_element}
 use Rattle.box_mesh.specs.Ranges.{AreSteps}
 use Rattle.integer_laws.proofs.Ring.{Expr, var, con, ◌⊕◌, ◌⊖◌, ◌⊗◌, ring}

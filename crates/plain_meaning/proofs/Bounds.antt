@@ -1,5 +1,5 @@
 -- How large the vectors of a triangle are.
-use Rattle.std.proofs.Common.{ℕ, ◌≤◌, ◌*◌, ◌+◌, ◌^◌, unsigned_abs, ◌*ℤ◌, ◌+ℤ◌, ◌-ℤ◌, arith, le_trans}
+use Rattle.std.proofs.Common.{◌≤◌, ◌*◌, ◌^◌, unsigned_abs, ◌*ℤ◌, ◌+ℤ◌, arith, le_trans}
 use Rattle.spec_space.specs.declared.Point.{Point}
 use Rattle.spec_space.specs.declared.Vector.{Vector}
 use Rattle.spec_space.specs.Points.{minus, cross, dot, way}

@@ -53,7 +53,7 @@ fn truth(operator: Operator, first: bool, second: bool) -> bool
     }
 }
 
-/// Whether the point lies in front of the plane, or behind it; a point on the plane does neither.
+/// Whether the point lies on this side of the plane; a point on the plane lies on neither side.
 fn is_beside(plane: &Plane, in_front: bool, point: &Point) -> bool
     requires plane { IsSmallPlane plane.now }
     requires point { IsSmallPoint point.now }

@@ -7,7 +7,8 @@ use Rattle.spec_solid.specs.Solids.{Body}
 use Rattle.spec_solid.specs.Planes.{IsPlaneOf, IsAlone, boundary_at}
 use Rattle.spec_page.specs.Element.{Element}
 use Rattle.spec_page.specs.Faces.{IsFull, faces_at}
-use Rattle.spec_page.specs.World.{rounded_image, printed_volume, within_128_bits}
+use Rattle.spec_page.specs.World.{rounded_image, printed_volume}
+use Rattle.spec_num.specs.Words.{within_128_bits}
 
 pub record IsPrintOf (body : Body) (grid : ℕ) (e : Element) : Type 0 where
   -- each printed corner is the exact image of its exact corner, rounded

@@ -1,5 +1,5 @@
 -- Decimal texts (integer and real of ISO 10303-21) and the counts of units of 10^-12 that they stand for.
-use Rattle.std.specs.Prelude.{ℕ, ℤ, pos, ◌+◌, ◌-◌, ◌*◌, ◌^◌, ◌==◌, ◌||◌, neg_ℤ, Bool, true, false, List, [], ◌∷◌, ◌++◌, length, drop, if◌then◌else◌}
+use Rattle.std.specs.Prelude.{ℕ, ℤ, pos, ◌+◌, ◌-◌, ◌*◌, ◌^◌, ◌==◌, ◌||◌, neg_ℤ, Bool, false, List, [], ◌∷◌, ◌++◌, length, drop, if◌then◌else◌}
 use Rattle.std.specs.List.{take_while, prefix_len}
 use Rattle.std.specs.Char.{is_ascii_digit}
 use Rattle.spec_num.specs.Rounding.{rounded_size}

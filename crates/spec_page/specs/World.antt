@@ -1,5 +1,5 @@
 -- The printed corners of an element, and its volume.
-use Rattle.std.specs.Prelude.{ℕ, ℤ, pos, neg_ℤ, ◌^◌, ◌+ℤ◌, ◌*ℤ◌, int_lt, int_le, ◌&&◌, List, [], ◌∷◌, map, Option, Some, None, if◌then◌else◌}
+use Rattle.std.specs.Prelude.{ℕ, ℤ, pos, ◌^◌, ◌+ℤ◌, ◌*ℤ◌, List, [], ◌∷◌, map}
 use Rattle.spec_num.specs.Rounding.{round_of}
 use Rattle.spec_space.specs.declared.Point.{Point}
 use Rattle.spec_space.specs.declared.Vector.{Vector}
@@ -41,7 +41,3 @@ faces_volume origin (f ∷ fs) = face_volume origin f +ℤ faces_volume origin f
 -- the sixfold volume of the printed element in cubic micrometres, from its first printed corner
 abbrev pub printed_volume : Element → ℤ
 printed_volume e = faces_volume (corner_at e 0).printed (map (λ f. map (λ i. (corner_at e i).printed) f.corners) e.faces)
-
--- a number of 128 bits with a sign
-abbrev pub within_128_bits : ℤ → Option ℤ
-within_128_bits v = if int_le (neg_ℤ (pos (2 ^ 127))) v && int_lt v (pos (2 ^ 127)) then Some v else None

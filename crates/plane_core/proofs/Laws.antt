@@ -1,0 +1,134 @@
+-- Laws of planes, points and books for the crates above: reduced planes are reduced in the words of the definitions, the
+-- common point of three planes is one, and values are linear.
+use Rattle.std.proofs.Common.{◌≡◌, ℕ, zero, suc, ◌<◌, Bool, true, false, List, [], ◌∷◌, slice_get, Some, ℤ, pos, negsuc, ◌+ℤ◌, ◌*ℤ◌, ◌<ℤ◌, unsigned_abs, refl, sym, ap, ◌∙◌, arith, ◌⊎◌, inl, inr, true≢false}
+use Rattle.std.specs.Prelude.{◌≢◌}
+use Rattle.std.proofs.lemmas.Int.{ints, unsigned_abs-mul}
+use Rattle.std.proofs.lemmas.Option.{get_or_from_slice_get, slice_get_within}
+use Prim.Native.Nat.{◌∣◌}
+use native.Mathlib.Nat.{dvd-mul_right}
+use Rattle.integer_laws.proofs.Ring.{Expr, var, ◌⊕◌, ◌⊗◌, ◌⊖◌, ring}
+use Rattle.integer_laws.proofs.Signs.{mul_positive, mul_negative}
+use Rattle.integer_laws.proofs.Products.{cancel_factor}
+use Rattle.spec_space.specs.declared.Plane.{Plane as AnyPlane}
+use Rattle.spec_space.specs.declared.Point.{Point}
+use Rattle.spec_space.specs.Points.{value, normal, dot, cross}
+use Rattle.spec_solid.specs.Planes.{LeadsPositive, IsReduced}
+use Rattle.plane_core.specs.Numbers.{leads, leads_positive}
+use Rattle.plane_core.specs.Points.{times, plus, IsSamePoint}
+use Rattle.plane_core.specs.Views.{plane_of}
+use Rattle.plane_core.specs.Planes.{sign_of}
+use Rattle.plane_core.specs.Books.{AreDistinct}
+use Rattle.plane_core.specs.declared.numbers.Plane.{Plane}
+use Rattle.plane_core.specs.declared.points.Sign.TheVariants.{Front, Back}
+use Rattle.plane_core.proofs.Cancel.{sign_cases, mul_zero_right}
+use Rattle.plane_core.proofs.Cramer as C
+
+-- ---- reduced planes
+above_zero : (n : ℕ) → pos 0 <ℤ pos (suc n)
+above_zero n = omega (arith, ints)
+
+lead_of : (a : ℤ) (rest : Bool) → leads a rest ≡ true → (pos 0 <ℤ a) ⊎ ((a ≡ pos 0) × (rest ≡ true))
+lead_of (pos zero) rest e = inr (refl, e)
+lead_of (pos (suc n)) rest e = inl (above_zero n)
+lead_of (negsuc n) rest e = absurd (true≢false (sym e))
+
+third_lead : (c : ℤ) → leads c false ≡ true → pos 0 <ℤ c
+third_lead c e = elim (lead_of c false e) [
+  | inl p ↦ p
+  | inr q ↦ absurd (true≢false (sym q.1))
+]
+
+second_lead : (b c : ℤ) → leads b (leads c false) ≡ true → (pos 0 <ℤ b) ⊎ ((b ≡ pos 0) × (pos 0 <ℤ c))
+second_lead b c e = elim (lead_of b (leads c false) e) [
+  | inl p ↦ inl p
+  | inr q ↦ inr (q.0, third_lead c q.1)
+]
+
+pub leads-LeadsPositive : (h : AnyPlane) → leads_positive h.a h.b h.c ≡ true → LeadsPositive h
+leads-LeadsPositive h e = elim (lead_of h.a (leads h.b (leads h.c false)) e) [
+  | inl p ↦ inl p
+  | inr q ↦ inr (q.0, second_lead h.b h.c q.1)
+]
+
+pub divides_size : (m q a : ℤ) → a ≡ m *ℤ q → unsigned_abs m ∣ unsigned_abs a
+divides_size m q a e = rw (ap unsigned_abs e, unsigned_abs-mul m q) (dvd-mul_right (unsigned_abs m) (unsigned_abs q))
+
+-- a plane of this crate is reduced
+pub reduced_is_reduced : (p : Plane) → IsReduced (plane_of p)
+reduced_is_reduced p = record {
+  lead = leads-LeadsPositive (plane_of p) p.signed;
+  divisors = λ m quotient t. p.coprime (unsigned_abs m) (divides_size m quotient.a p.a t.0) (divides_size m quotient.b p.b t.1) (divides_size m quotient.c p.c t.2) (divides_size m quotient.d p.d t.3);
+}
+
+-- ---- values
+abbrev valuee : Expr → Expr → Expr → Expr → Expr → Expr → Expr → Expr → Expr
+valuee a b c d x y z w = a ⊗ x ⊕ b ⊗ y ⊕ c ⊗ z ⊖ d ⊗ w
+
+pub value_scaled : (h : AnyPlane) (k : ℤ) (p : Point) → value h (times k p) ≡ k *ℤ value h p
+value_scaled h k p = C.side_value-scaled h.a h.b h.c h.d k p.x p.y p.z p.w
+
+pub value_linear : (h : AnyPlane) (p q : Point) → value h (plus p q) ≡ value h p +ℤ value h q
+value_linear h p q =
+    let numbers : List ℤ = h.a ∷ (h.b ∷ (h.c ∷ (h.d ∷ (p.x ∷ (p.y ∷ (p.z ∷ (p.w ∷ (q.x ∷ (q.y ∷ (q.z ∷ (q.w ∷ []))))))))))) in
+    ring numbers
+    (valuee (var 0) (var 1) (var 2) (var 3) (var 4 ⊕ var 8) (var 5 ⊕ var 9) (var 6 ⊕ var 10) (var 7 ⊕ var 11))
+    (valuee (var 0) (var 1) (var 2) (var 3) (var 4) (var 5) (var 6) (var 7) ⊕ valuee (var 0) (var 1) (var 2) (var 3) (var 8) (var 9) (var 10) (var 11)) refl
+
+pub sign_positive : (x : ℤ) → pos 0 <ℤ x → sign_of x ≡ Front
+sign_positive (pos zero) h = absurd (omega (arith, ints))
+sign_positive (pos (suc n)) h = refl
+sign_positive (negsuc n) h = absurd h.lt
+
+pub sign_negative : (x : ℤ) → x <ℤ pos 0 → sign_of x ≡ Back
+sign_negative (pos n) h = absurd (omega (arith, ints))
+sign_negative (negsuc n) h = refl
+
+-- a positive factor keeps the sign
+pub sign_factor : (k v : ℤ) → pos 0 <ℤ k → sign_of (k *ℤ v) ≡ sign_of v
+sign_factor k v h = elim (sign_cases v) [
+  | inl n ↦ sign_negative (k *ℤ v) (mul_negative k v h n) ∙ sym (sign_negative v n)
+  | inr (inl z) ↦ ap sign_of (ap (λ x. k *ℤ x) z ∙ mul_zero_right k ∙ sym z)
+  | inr (inr p) ↦ sign_positive (k *ℤ v) (mul_positive k v h p) ∙ sym (sign_positive v p)
+]
+
+-- so the side of a point does not depend on how it is spelt
+pub sign_scaled : (h : AnyPlane) (k : ℤ) (p : Point) → pos 0 <ℤ k → sign_of (value h (times k p)) ≡ sign_of (value h p)
+sign_scaled h k p positive = ap sign_of (value_scaled h k p) ∙ sign_factor k (value h p) positive
+
+-- ---- the common point
+proportional : (w x u v s t : ℤ) → w ≢ pos 0 → u *ℤ w ≡ x *ℤ v → s *ℤ w ≡ x *ℤ t → u *ℤ t ≡ s *ℤ v
+proportional w x u v s t some p q = cancel_factor w (u *ℤ t) (s *ℤ v) some (first w u t ∙ ap (λ n. n *ℤ t) p ∙ turned x v t ∙ ap (λ n. n *ℤ v) (sym q) ∙ sym (first w s v))
+  where
+    first : (w u t : ℤ) → w *ℤ (u *ℤ t) ≡ (u *ℤ w) *ℤ t
+    first w u t = ring (w ∷ (u ∷ (t ∷ []))) (var 0 ⊗ (var 1 ⊗ var 2)) ((var 1 ⊗ var 0) ⊗ var 2) refl
+
+    turned : (x v t : ℤ) → (x *ℤ v) *ℤ t ≡ (x *ℤ t) *ℤ v
+    turned x v t = ring (x ∷ (v ∷ (t ∷ []))) ((var 0 ⊗ var 1) ⊗ var 2) ((var 0 ⊗ var 2) ⊗ var 1) refl
+
+-- two points on three planes with independent normals are one point, up to a factor
+pub common_point_unique : (h k l : AnyPlane) (p q : Point) → dot (normal h) (cross (normal k) (normal l)) ≢ pos 0
+    → value h p ≡ pos 0 → value k p ≡ pos 0 → value l p ≡ pos 0 → value h q ≡ pos 0 → value k q ≡ pos 0 → value l q ≡ pos 0 → IsSamePoint p q
+common_point_unique h k l p q some hp kp lp hq kq lq =
+    let independent : C.w h.a h.b h.c h.d k.a k.b k.c k.d l.a l.b l.c l.d ≢ pos 0 = λ e. some (sym (C.triple h.a h.b h.c k.a k.b k.c l.a l.b l.c) ∙ e) in
+    record {
+      same_x = proportional _ _ p.x p.w q.x q.w independent
+          (C.same_x h.a h.b h.c h.d k.a k.b k.c k.d l.a l.b l.c l.d p.x p.y p.z p.w hp kp lp)
+          (C.same_x h.a h.b h.c h.d k.a k.b k.c k.d l.a l.b l.c l.d q.x q.y q.z q.w hq kq lq);
+      same_y = proportional _ _ p.y p.w q.y q.w independent
+          (C.same_y h.a h.b h.c h.d k.a k.b k.c k.d l.a l.b l.c l.d p.x p.y p.z p.w hp kp lp)
+          (C.same_y h.a h.b h.c h.d k.a k.b k.c k.d l.a l.b l.c l.d q.x q.y q.z q.w hq kq lq);
+      same_z = proportional _ _ p.z p.w q.z q.w independent
+          (C.same_z h.a h.b h.c h.d k.a k.b k.c k.d l.a l.b l.c l.d p.x p.y p.z p.w hp kp lp)
+          (C.same_z h.a h.b h.c h.d k.a k.b k.c k.d l.a l.b l.c l.d q.x q.y q.z q.w hq kq lq);
+    }
+
+-- ---- numbers of a book
+not_below : (ps : List Plane) (i j : ℕ) (p : Plane) → AreDistinct ps → slice_get ps i ≡ Some p → slice_get ps j ≡ Some p → i < j → ⊥
+not_below ps i j p distinct at_i at_j below = distinct i j p below (slice_get_within ps j p at_j) (get_or_from_slice_get ps i p p at_i ∙ sym (get_or_from_slice_get ps j p p at_j))
+
+neither : (i j : ℕ) → (i < j → ⊥) → (j < i → ⊥) → i ≡ j
+neither i j p q = omega arith
+
+-- a plane has one number
+pub one_number : (ps : List Plane) (i j : ℕ) (p : Plane) → AreDistinct ps → slice_get ps i ≡ Some p → slice_get ps j ≡ Some p → i ≡ j
+one_number ps i j p distinct at_i at_j = neither i j (not_below ps i j p distinct at_i at_j) (not_below ps j i p distinct at_j at_i)

@@ -1,0 +1,82 @@
+use Rattle.std.proofs.Common.{FitsSigned, sym, ap, ◌∙◌, true≢false, refl, of_z}
+use mir.Syntax.{w128}
+use Rattle.plane_core.proofs.Sizes.{arg, again, known, product, fits, small}
+use Rattle.plane_core.proofs.Cramer as C
+use Rattle.spec_space.specs.declared.Point.{Point}
+use Rattle.plane_core.proofs.points.meet.Goals as goal
+
+pub returns-then-w-eq0-clause-dependent : goal.returns-then-w-eq0-clause-dependent
+returns-then-w-eq0-clause-dependent c =
+    let w_fits : FitsSigned w128 c.weight_part-w.result = record { sfits = c.weight_part-w.type_inv } in
+    let w_is = c.weight_part-w.ensures.value in
+    let triple = C.triple c.args.p.now.a c.args.p.now.b c.args.p.now.c c.args.q.now.a c.args.q.now.b c.args.q.now.c c.args.r.now.a c.args.r.now.b c.args.r.now.c in
+    ((λ _. sym triple ∙ sym w_is ∙ C.zero_bits c.weight_part-w.result w_fits c.if-w-eq0.true), (λ _. refl))
+
+pub returns-clause-dependent : goal.returns-clause-dependent
+returns-clause-dependent c =
+    let w_is = c.weight_part-w.ensures.value in
+    let triple = C.triple c.args.p.now.a c.args.p.now.b c.args.p.now.c c.args.q.now.a c.args.q.now.b c.args.q.now.c c.args.r.now.a c.args.r.now.b c.args.r.now.c in
+    ((λ e. absurd (true≢false e)), (λ e. absurd (c.if-w-eq0.false (ap (of_z w128) (w_is ∙ triple ∙ e)))))
+
+pub overflow_mul-sign : goal.overflow_mul-sign
+overflow_mul-sign c =
+    let x = again (known c.x_part-x.ensures.value c.x_part-x.ensures.size) tt in
+    let s = arg c.sign_number-sign.result c.sign_number-sign.ensures.unit tt in
+    fits (product s x) tt
+
+pub overflow_mul-sign-2 : goal.overflow_mul-sign-2
+overflow_mul-sign-2 c =
+    let y = again (known c.y_part-y.ensures.value c.y_part-y.ensures.size) tt in
+    let s = arg c.sign_number-sign.result c.sign_number-sign.ensures.unit tt in
+    fits (product s y) tt
+
+pub overflow_mul-sign-3 : goal.overflow_mul-sign-3
+overflow_mul-sign-3 c =
+    let z = again (known c.z_part-z.ensures.value c.z_part-z.ensures.size) tt in
+    let s = arg c.sign_number-sign.result c.sign_number-sign.ensures.unit tt in
+    fits (product s z) tt
+
+pub overflow_mul-sign-4 : goal.overflow_mul-sign-4
+overflow_mul-sign-4 c =
+    let w = again (known c.weight_part-w.ensures.value c.weight_part-w.ensures.size) tt in
+    let s = arg c.sign_number-sign.result c.sign_number-sign.ensures.unit tt in
+    fits (product s w) tt
+
+pub corner_of-requires : goal.corner_of-requires
+corner_of-requires c =
+    let w = again (known c.weight_part-w.ensures.value c.weight_part-w.ensures.size) tt in
+    let x = again (known c.x_part-x.ensures.value c.x_part-x.ensures.size) tt in
+    let y = again (known c.y_part-y.ensures.value c.y_part-y.ensures.size) tt in
+    let z = again (known c.z_part-z.ensures.value c.z_part-z.ensures.size) tt in
+    let s = arg c.sign_number-sign.result c.sign_number-sign.ensures.unit tt in
+    record {
+      x_small = small (again (product s x) tt);
+      y_small = small (again (product s y) tt);
+      z_small = small (again (product s z) tt);
+      w_small = small (again (product s w) tt);
+      positive = rw (again (product s w) tt).is (rw w.is at c.sign_number-sign.ensures.positive);
+    }
+
+pub returns-clause-common : goal.returns-clause-common
+returns-clause-common c =
+    let w = again (known c.weight_part-w.ensures.value c.weight_part-w.ensures.size) tt in
+    let x = again (known c.x_part-x.ensures.value c.x_part-x.ensures.size) tt in
+    let y = again (known c.y_part-y.ensures.value c.y_part-y.ensures.size) tt in
+    let z = again (known c.z_part-z.ensures.value c.z_part-z.ensures.size) tt in
+    let s = arg c.sign_number-sign.result c.sign_number-sign.ensures.unit tt in
+    let corner = c.corner_of.ensures.multiple in
+    let k = corner.factor in
+    let x_is = sym (again (product s x) tt).is ∙ corner.x_is in
+    let y_is = sym (again (product s y) tt).is ∙ corner.y_is in
+    let z_is = sym (again (product s z) tt).is ∙ corner.z_is in
+    let w_is = sym (again (product s w) tt).is ∙ corner.w_is in
+    record {
+      on_first = C.on_corner _ _ _ _ c.sign_number-sign.result _ _ _ _ k _ _ _ _ corner.positive x_is y_is z_is w_is (C.on_first c.args.p.now.a c.args.p.now.b c.args.p.now.c c.args.p.now.d c.args.q.now.a c.args.q.now.b c.args.q.now.c c.args.q.now.d c.args.r.now.a c.args.r.now.b c.args.r.now.c c.args.r.now.d);
+      on_second = C.on_corner _ _ _ _ c.sign_number-sign.result _ _ _ _ k _ _ _ _ corner.positive x_is y_is z_is w_is (C.on_second c.args.p.now.a c.args.p.now.b c.args.p.now.c c.args.p.now.d c.args.q.now.a c.args.q.now.b c.args.q.now.c c.args.q.now.d c.args.r.now.a c.args.r.now.b c.args.r.now.c c.args.r.now.d);
+      on_third = C.on_corner _ _ _ _ c.sign_number-sign.result _ _ _ _ k _ _ _ _ corner.positive x_is y_is z_is w_is (C.on_third c.args.p.now.a c.args.p.now.b c.args.p.now.c c.args.p.now.d c.args.q.now.a c.args.q.now.b c.args.q.now.c c.args.q.now.d c.args.r.now.a c.args.r.now.b c.args.r.now.c c.args.r.now.d);
+      only = λ (u : Point) is_point on_p on_q on_r. record {
+        same_x = C.same_corner c.sign_number-sign.result _ _ k _ _ u.x u.w corner.positive x_is w_is (C.same_x c.args.p.now.a c.args.p.now.b c.args.p.now.c c.args.p.now.d c.args.q.now.a c.args.q.now.b c.args.q.now.c c.args.q.now.d c.args.r.now.a c.args.r.now.b c.args.r.now.c c.args.r.now.d u.x u.y u.z u.w on_p on_q on_r);
+        same_y = C.same_corner c.sign_number-sign.result _ _ k _ _ u.y u.w corner.positive y_is w_is (C.same_y c.args.p.now.a c.args.p.now.b c.args.p.now.c c.args.p.now.d c.args.q.now.a c.args.q.now.b c.args.q.now.c c.args.q.now.d c.args.r.now.a c.args.r.now.b c.args.r.now.c c.args.r.now.d u.x u.y u.z u.w on_p on_q on_r);
+        same_z = C.same_corner c.sign_number-sign.result _ _ k _ _ u.z u.w corner.positive z_is w_is (C.same_z c.args.p.now.a c.args.p.now.b c.args.p.now.c c.args.p.now.d c.args.q.now.a c.args.q.now.b c.args.q.now.c c.args.q.now.d c.args.r.now.a c.args.r.now.b c.args.r.now.c c.args.r.now.d u.x u.y u.z u.w on_p on_q on_r);
+      };
+    }

@@ -1,0 +1,14 @@
+use Rattle.std.proofs.Common.{arith, refl}
+use native.Mathlib.Nat.{dvd_antisymm, one-dvd}
+use Rattle.plane_core.proofs.Sizes.{arg, small}
+use Rattle.plane_core.proofs.walls.x_wall.Goals as goal
+
+pub invariant_of-result : goal.invariant_of-result
+invariant_of-result c = record {
+  a_small = omega arith;
+  b_small = omega arith;
+  c_small = omega arith;
+  d_small = small (arg c.args.d c.requires.small tt);
+  coprime = λ k h _ _ _. dvd_antisymm h (one-dvd k);
+  signed = refl;
+}

@@ -1,0 +1,5 @@
+pub mod Numbers
+pub mod Points
+pub mod Views
+pub mod Planes
+pub mod Books

@@ -1,0 +1,16 @@
+//! Planes with whole numbers, reduced; the corners where three of them meet; the side of a corner at a plane; and books
+//! that number planes. All of it is exact within 128 bits.
+#![tactic(auto)]
+
+mod book;
+mod numbers;
+mod points;
+mod reduce;
+mod reduced;
+#[cfg(test)]
+mod tests;
+mod walls;
+
+pub use book::{PlaneBook, PlaneId};
+pub use numbers::{Corner, Plane};
+pub use points::{Sign, meet, side};
