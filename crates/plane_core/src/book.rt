@@ -11,6 +11,7 @@ use std::marker::Model;
 /// The number of a plane in a book, counted from 0.
 #[derive(Clone, Copy, Default, PartialEq, Eq, Hash, Debug)]
 pub struct PlaneId {
+    /// The place of the plane in its book.
     pub k: u32,
 }
 
@@ -36,7 +37,7 @@ impl Model for PlaneBook {
 
 impl PlaneBook {
     /// A book with the six walls of the enclosing cube, numbers 0 to 5 (a rule of this project): the planes at -1048577
-    /// and 1048577 grid steps, along x, then y, then z.
+    /// and 1048577 grid steps, along x, then y, then z. The error is want of memory.
     pub fn new(alloc: Global) -> Result<PlaneBook, AllocError>
         ensures walls { IfOk result (λ book. map plane_of book ≡ cube_walls) }
         ensures count { IfOk result (λ book. length book ≡ 6) }
@@ -62,7 +63,7 @@ impl PlaneBook {
         self.planes.len()
     }
 
-    /// The plane with a number that the book has given.
+    /// The plane with a number that this book has given.
     pub fn plane(&self, id: PlaneId) -> &Plane
         requires given { id.k < length self.now }
         ensures value { slice_get self.now id.k ≡ Some result.now }
@@ -73,7 +74,8 @@ impl PlaneBook {
         }
     }
 
-    /// The number of the plane: the one that it has, or else a new one at the end. For want of memory nothing changes.
+    /// The number of the plane: the one that it has, or else a new one at the end. The book has fewer than 2^31 planes.
+    /// The error is want of memory, and then the book is as before.
     pub fn add(&mut self, p: Plane) -> Result<PlaneId, AllocError>
         requires room { length self.old < 2 ^ 31 }
         ensures number { IfOk result (λ id. slice_get self.new id.k ≡ Some p) }
