@@ -53,6 +53,26 @@ fn tells_the_side_of_a_corner(rt: HostRuntime) {
 }
 
 #[test]
+fn tells_the_side_near_the_bound(rt: HostRuntime) {
+    const MOST: i128 = 1 << 26;
+    const FAR: i128 = 1 << 44;
+    let first = Plane::reduced(MOST, MOST - 1, 3 - MOST, FAR).expect(&rt, "a plane");
+    let second = Plane::reduced(MOST - 5, 7 - MOST, MOST - 9, 1 - FAR).expect(&rt, "a plane");
+    let third = Plane::reduced(MOST - 11, MOST - 13, MOST - 17, FAR - 3).expect(&rt, "a plane");
+    let corner = meet(&first, &second, &third).expect(&rt, "a corner");
+    assert_eq!(rt; corner.x, -1_416_708_706_371_224_207_358);
+    assert_eq!(rt; corner.y, 31_691_259_102_744_088_384_642_010_309);
+    assert_eq!(rt; corner.z, 2_833_416_965_900_721_559_959);
+    assert_eq!(rt; corner.w, 120_892_541_429_069_452_096_266);
+    // The values are some 4.25 * 10^36 in size, between 2^121 and 2^122.
+    let behind = Plane::reduced(MOST - 1, -MOST, MOST - 1, FAR - 1).expect(&rt, "a plane");
+    assert_eq!(rt; side(&behind, &corner), Sign::Back);
+    let in_front = Plane::reduced(MOST - 1, MOST, MOST - 1, 1 - FAR).expect(&rt, "a plane");
+    assert_eq!(rt; side(&in_front, &corner), Sign::Front);
+    assert_eq!(rt; side(&third, &corner), Sign::On);
+}
+
+#[test]
 fn gives_equal_planes_one_number(rt: HostRuntime) -> Result<(), AllocError> {
     let mut book = PlaneBook::new(rt.alloc())?;
     assert_eq!(rt; book.count(), 6);
