@@ -1,0 +1,13 @@
+-- Sides: planes of which the front is kept.
+use Rattle.std.specs.Prelude.{◌≡◌, ℤ, pos, ◌<ℤ◌, ◌≤ℤ◌, List, All}
+use Rattle.spec_space.specs.declared.Point.{Point}
+use Rattle.spec_space.specs.declared.Plane.{Plane}
+use Rattle.spec_space.specs.Points.{IsPoint, value, normal, dot, cross, way_between}
+
+-- strictly inside each side
+abbrev pub IsWithin : List Plane → Point → Type 0
+IsWithin sides p = All (λ h. pos 0 <ℤ value h p) sides
+
+-- inside each side or on its plane
+abbrev pub IsTouching : List Plane → Point → Type 0
+IsTouching sides p = All (λ h. pos 0 ≤ℤ value h p) sides

@@ -1,0 +1,13 @@
+//! Convex fragments of planes.
+#![tactic(auto)]
+
+mod clip;
+mod meets;
+
+mod cut;
+mod frag;
+
+pub use meets::corners;
+
+pub use cut::split;
+pub use frag::{Edge, Frag, Split};
