@@ -1,8 +1,9 @@
 -- The closed enclosing cube, and when a part of a plane has area.
-use Rattle.std.specs.Prelude.{◌≡◌, ◌≢◌, ◌+◌, List, [], ◌∷◌, ℤ, pos, negsuc, ◌*ℤ◌, ◌≤ℤ◌}
+use Rattle.std.specs.Prelude.{◌≡◌, ℤ, pos, negsuc, ◌*ℤ◌, ◌≤ℤ◌}
 use Rattle.spec_space.specs.declared.Point.{Point}
 use Rattle.spec_space.specs.declared.Plane.{Plane}
-use Rattle.spec_space.specs.Points.{IsPoint, value, normal, dot, cross, way_between}
+use Rattle.spec_space.specs.Points.{IsPoint, value}
+use Rattle.convex_cycles.specs.Areas.{AreSpread}
 
 -- no coordinate has a size above 1048577 grid steps
 pub record IsInCube (p : Point) : Type 0 where
@@ -12,10 +13,6 @@ pub record IsInCube (p : Point) : Type 0 where
   pub y_high : p.y ≤ℤ (pos 1048577 *ℤ p.w)
   pub z_low : (negsuc 1048576 *ℤ p.w) ≤ℤ p.z
   pub z_high : p.z ≤ℤ (pos 1048577 *ℤ p.w)
-
--- the triangle of three points has an area, seen along the normal of h
-abbrev pub AreSpread : Plane → Point → Point → Point → Type 0
-AreSpread h p q r = dot (normal h) (cross (way_between p q) (way_between p r)) ≢ pos 0
 
 -- some area of the plane lies in the closed cube: a triangle of its points
 pub record HasAreaInCube (h : Plane) : Type 0 where

@@ -6,7 +6,7 @@ use Rattle.spec_space.specs.Points.{IsPoint, value, opposite}
 use Rattle.plane_core.specs.declared.numbers.Plane.{Plane as BookPlane}
 use Rattle.plane_core.specs.declared.book.PlaneId.{PlaneId}
 use Rattle.plane_core.specs.Views.{plane_of}
-use Rattle.poly_frag.specs.Sides.{IsWithin, IsTouching}
+use Rattle.convex_cycles.specs.Sides.{IsWithin, IsTouching}
 use Rattle.poly_frag.specs.declared.frag.Edge.{Edge}
 use Rattle.poly_frag.specs.declared.frag.Frag.{Frag}
 

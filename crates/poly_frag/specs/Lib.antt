@@ -2,5 +2,4 @@ pub mod Clips
 pub mod Cubes
 pub mod Cycles
 pub mod Frags
-pub mod Sides
 pub mod Splits
