@@ -1,7 +1,8 @@
 ghost use Rattle.std.specs.Prelude.{◌≡◌, ◌<◌, IfOk, map, length};
 ghost use Rattle.plane_core.specs.Views.{point_of};
 ghost use Rattle.poly_frag.specs.Frags.{side_of};
-ghost use Rattle.poly_frag.specs.Clips.{is_in_front, closed_round};
+ghost use Rattle.convex_cycles.specs.Sides.{is_in_front};
+ghost use Rattle.poly_frag.specs.Clips.{closed_round};
 ghost use Rattle.poly_frag.specs.Cycles.{IsCycle, AreCorners};
 
 use crate::frag::{Edge, Frag};
@@ -33,11 +34,10 @@ fn keeps(book: &PlaneBook, edge: Edge, corner: &Corner) -> bool
     requires given { edge.plane.k < length book.now }
     ensures kept { result ≡ is_in_front (side_of book.now edge) (point_of corner.now) }
 {
-    let sign = side(book.plane(edge.plane), corner);
-    if edge.keep_front {
-        sign == Sign::Front
-    } else {
-        sign == Sign::Back
+    match side(book.plane(edge.plane), corner) {
+        Sign::Front => edge.keep_front,
+        Sign::On => false,
+        Sign::Back => !edge.keep_front,
     }
 }
 
