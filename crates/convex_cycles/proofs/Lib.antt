@@ -1,2 +1,4 @@
 pub mod Orders
+pub mod Quotes
 pub mod Crossings
+pub mod Turns
