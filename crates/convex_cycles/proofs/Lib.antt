@@ -2,3 +2,4 @@ pub mod Orders
 pub mod Quotes
 pub mod Crossings
 pub mod Turns
+pub mod NewEdges
