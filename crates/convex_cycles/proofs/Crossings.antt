@@ -9,21 +9,13 @@ use Rattle.plane_core.specs.Points.{times, plus}
 use Rattle.plane_core.proofs.Laws.{value_scaled, value_linear}
 use Rattle.convex_cycles.proofs.Orders.{weaker, turned_weakly, positive_mix, nonneg_mix, zero_mix}
 
--- ---- sides of a list
--- each side of a list
-abbrev pub Each : (Plane → Type 0) → List Plane → Type 0
-Each P [] = Unit {0}
-Each P (h ∷ hs) = P h × Each P hs
-
+-- ---- sides
+-- strictly inside a side, and inside it or on its plane
 abbrev pub In : Point → Plane → Type 0
 In p h = pos 0 <ℤ value h p
 
 abbrev pub Touches : Point → Plane → Type 0
 Touches p h = pos 0 ≤ℤ value h p
-
-pub each_weaker : (P Q : Plane → Type 0) → ((h : Plane) → P h → Q h) → (hs : List Plane) → Each P hs → Each Q hs
-each_weaker P Q f [] e = tt
-each_weaker P Q f (h ∷ hs) e = (f h e.0, each_weaker P Q f hs e.1)
 
 -- ---- means
 -- p taken a times and m taken b times
