@@ -5,3 +5,4 @@ pub mod Crossings
 pub mod Turns
 pub mod NewEdges
 pub mod Segments
+pub mod Spares
