@@ -6,3 +6,4 @@ pub mod Turns
 pub mod NewEdges
 pub mod Segments
 pub mod Spares
+pub mod Hulls
