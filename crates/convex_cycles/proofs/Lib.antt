@@ -7,3 +7,4 @@ pub mod NewEdges
 pub mod Segments
 pub mod Spares
 pub mod Hulls
+pub mod Edges
