@@ -1,5 +1,5 @@
 -- Planes with the same numbers are one plane, and what an insertion leaves of a book.
-use Rattle.std.proofs.Common.{◌≡◌, length-append, ℕ, zero, suc, ◌+◌, ◌<◌, ◌≤◌, ◌^◌, Bool, true, false, ◌&&◌, IsTrue, List, [], ◌∷◌, ◌++◌, length, slice_get, Contains, ℤ, unsigned_abs, arith, refl, sym, ap, subst, ◌∙◌, int_eq, true≢false}
+use Rattle.std.proofs.Common.{◌≡◌, length-append, map, take, ℕ, zero, suc, ◌+◌, ◌<◌, ◌≤◌, ◌^◌, Bool, true, false, ◌&&◌, IsTrue, List, [], ◌∷◌, ◌++◌, length, slice_get, Contains, ℤ, unsigned_abs, arith, refl, sym, ap, subst, ◌∙◌, int_eq, true≢false}
 use Rattle.std.proofs.Props.{props}
 use Rattle.std.specs.Bool.{if◌then◌else◌, Decides}
 use Rattle.std.specs.List.{list_any, IsDistinct}
@@ -11,7 +11,7 @@ use Rattle.std.proofs.lemmas.Map.Views.{Contains-from_any}
 use Rattle.spec_space.specs.declared.Plane.{Plane as AnyPlane}
 use Rattle.plane_core.specs.Numbers.{AreCoprime, leads_positive}
 use Rattle.plane_core.specs.Views.{plane_of}
-use Rattle.plane_core.specs.Books.{AreDistinct}
+use Rattle.plane_core.specs.Books.{AreDistinct, BeginsWithWalls}
 use Rattle.plane_core.specs.declared.numbers.Plane.{Plane}
 
 pub same_plane : (p q : Plane) → p.a ≡ q.a → p.b ≡ q.b → p.c ≡ q.c → p.d ≡ q.d → p ≡ q
@@ -100,3 +100,23 @@ grown_if false ps p = (omega (arith, length-append ps (p ∷ [])), omega (arith,
 
 pub insert_grows : (ps new : List Plane) (p : Plane) → new ≡ (if list_any (plane_eq p) ps then ps else (ps ++ p ∷ [])) → (length ps ≤ length new) × (length new ≤ length ps + 1)
 insert_grows ps new p e = rw e (grown_if (list_any (plane_eq p) ps) ps p)
+
+-- ---- the walls
+take-append : {X : Type 0} → (n : ℕ) (xs ys : List X) → length (take n xs) ≡ n → take n (xs ++ ys) ≡ take n xs
+take-append zero xs ys e = refl
+take-append (suc n) [] ys e = absurd (omega arith)
+take-append (suc n) (x ∷ xs) ys e = ap (λ (zs : List _). x ∷ zs) (take-append n xs ys (omega arith))
+
+length-map : {X Y : Type 0} → (f : X → Y) (xs : List X) → length (map f xs) ≡ length xs
+length-map f [] = refl
+length-map f (x ∷ xs) = ap suc (length-map f xs)
+
+walls_first : (ps qs : List Plane) → BeginsWithWalls ps → BeginsWithWalls (ps ++ qs)
+walls_first ps qs h = ap (map plane_of) (take-append 6 ps qs (sym (length-map plane_of (take 6 ps)) ∙ ap length h)) ∙ h
+
+walls_if : (b : Bool) (ps : List Plane) (p : Plane) → BeginsWithWalls ps → BeginsWithWalls (if b then ps else (ps ++ p ∷ []))
+walls_if true ps p h = h
+walls_if false ps p h = walls_first ps (p ∷ []) h
+
+pub insert_walls : (ps new : List Plane) (p : Plane) → new ≡ (if list_any (plane_eq p) ps then ps else (ps ++ p ∷ [])) → BeginsWithWalls ps → BeginsWithWalls new
+insert_walls ps new p e h = subst BeginsWithWalls (sym e) (walls_if (list_any (plane_eq p) ps) ps p h)

@@ -1,6 +1,6 @@
 -- Laws of planes, points and books for the crates above: reduced planes are reduced in the words of the definitions, the
 -- common point of three planes is one, and values are linear.
-use Rattle.std.proofs.Common.{◌≡◌, ℕ, zero, suc, ◌<◌, Bool, true, false, List, [], ◌∷◌, slice_get, Some, ℤ, pos, negsuc, ◌+ℤ◌, ◌*ℤ◌, ◌<ℤ◌, unsigned_abs, refl, sym, ap, ◌∙◌, arith, ◌⊎◌, inl, inr, true≢false}
+use Rattle.std.proofs.Common.{◌≡◌, ℕ, zero, suc, ◌<◌, Bool, true, false, List, [], ◌∷◌, slice_get, Some, ℤ, pos, negsuc, neg_ℤ, ◌+ℤ◌, ◌*ℤ◌, ◌<ℤ◌, unsigned_abs, refl, sym, ap, ◌∙◌, arith, ◌⊎◌, inl, inr, true≢false}
 use Rattle.std.specs.Prelude.{◌≢◌}
 use Rattle.std.proofs.lemmas.Int.{ints, unsigned_abs-mul}
 use Rattle.std.proofs.lemmas.Option.{get_or_from_slice_get, slice_get_within}
@@ -13,7 +13,7 @@ use Rattle.spec_space.specs.declared.Plane.{Plane as AnyPlane}
 use Rattle.spec_space.specs.declared.Point.{Point}
 use Rattle.spec_space.specs.Points.{value, normal, dot, cross}
 use Rattle.spec_solid.specs.Planes.{LeadsPositive, IsReduced}
-use Rattle.plane_core.specs.Numbers.{leads, leads_positive}
+use Rattle.plane_core.specs.Numbers.{AreCoprime, leads, leads_positive}
 use Rattle.plane_core.specs.Points.{times, plus, IsSamePoint}
 use Rattle.plane_core.specs.Views.{plane_of}
 use Rattle.plane_core.specs.Planes.{sign_of}
@@ -22,6 +22,9 @@ use Rattle.plane_core.specs.declared.numbers.Plane.{Plane}
 use Rattle.plane_core.specs.declared.points.Sign.TheVariants.{Front, Back}
 use Rattle.plane_core.proofs.Cancel.{sign_cases, mul_zero_right}
 use Rattle.plane_core.proofs.Cramer as C
+use Rattle.plane_core.proofs.Books.{same_plane}
+use Rattle.plane_core.proofs.Signed.{coprime-neg}
+use Rattle.plane_core.proofs.Multiples.{shares, turn_both, turn_first}
 
 -- ---- reduced planes
 above_zero : (n : ℕ) → pos 0 <ℤ pos (suc n)
@@ -132,3 +135,62 @@ neither i j p q = omega arith
 -- a plane has one number
 pub one_number : (ps : List Plane) (i j : ℕ) (p : Plane) → AreDistinct ps → slice_get ps i ≡ Some p → slice_get ps j ≡ Some p → i ≡ j
 one_number ps i j p distinct at_i at_j = neither i j (not_below ps i j p distinct at_i at_j) (not_below ps j i p distinct at_j at_i)
+
+-- ---- planes with equal multiples
+divides : (k : ℕ) (x z : ℤ) → x ≡ pos k *ℤ z → k ∣ unsigned_abs x
+divides k x z e = divides_size (pos k) z x e
+
+one_times : (k : ℕ) (x z : ℤ) → k ≡ 1 → x ≡ pos k *ℤ z → x ≡ z
+one_times k x z one e = e ∙ ap (λ n. pos n *ℤ z) one ∙ once z
+  where
+    once : (z : ℤ) → pos 1 *ℤ z ≡ z
+    once z = omega (arith, ints)
+
+coprime_factor : (k : ℕ) (a b c d r s t u : ℤ) → AreCoprime a b c d → a ≡ pos k *ℤ r → b ≡ pos k *ℤ s → c ≡ pos k *ℤ t → d ≡ pos k *ℤ u → k ≡ 1
+coprime_factor k a b c d r s t u h ea eb ec ed = h k (divides k a r ea) (divides k b s eb) (divides k c t ec) (divides k d u ed)
+
+-- coprime numbers that have equal positive multiples are equal
+same_numbers : (m n : ℕ) (a b c d e f g h : ℤ) → 0 < m → 0 < n → AreCoprime a b c d → AreCoprime e f g h
+    → pos m *ℤ a ≡ pos n *ℤ e → pos m *ℤ b ≡ pos n *ℤ f → pos m *ℤ c ≡ pos n *ℤ g → pos m *ℤ d ≡ pos n *ℤ h
+    → (a ≡ e) × (b ≡ f) × (c ≡ g) × (d ≡ h)
+same_numbers m n a b c d e f g h m_some n_some first second ea eb ec ed =
+    let s = shares m n m_some n_some in
+    let p = s.share a e ea in
+    let q = s.share b f eb in
+    let r = s.share c g ec in
+    let t = s.share d h ed in
+    let i = coprime_factor s.first a b c d p.0 q.0 r.0 t.0 first p.1 q.1 r.1 t.1 in
+    let j = coprime_factor s.second e f g h p.0 q.0 r.0 t.0 second p.2 q.2 r.2 t.2 in
+    let same : (x y z : ℤ) → x ≡ pos s.first *ℤ z → y ≡ pos s.second *ℤ z → x ≡ y = λ x y z u v. one_times s.first x z i u ∙ sym (one_times s.second y z j v) in
+    (same a e p.0 p.1 p.2, same b f q.0 q.1 q.2, same c g r.0 r.1 r.2, same d h t.0 t.1 t.2)
+
+not_both : (a : ℤ) (r s : Bool) → (r ≡ true → s ≡ true → ⊥) → leads a r ≡ true → leads (neg_ℤ a) s ≡ true → ⊥
+not_both (pos zero) r s h e f = h e f
+not_both (pos (suc n)) r s h e f = true≢false (sym f)
+not_both (negsuc n) r s h e f = true≢false (sym e)
+
+-- numbers and their opposites do not both lead
+leads_once : (a b c : ℤ) → leads_positive a b c ≡ true → leads_positive (neg_ℤ a) (neg_ℤ b) (neg_ℤ c) ≡ true → ⊥
+leads_once a b c = not_both a (leads b (leads c false)) (leads (neg_ℤ b) (leads (neg_ℤ c) false)) (not_both b (leads c false) (leads (neg_ℤ c) false) (not_both c false false (λ e f. true≢false (sym e))))
+
+opposite_multiples : (p q : Plane) (i j : ℕ) → negsuc i *ℤ p.a ≡ pos (suc j) *ℤ q.a → negsuc i *ℤ p.b ≡ pos (suc j) *ℤ q.b → negsuc i *ℤ p.c ≡ pos (suc j) *ℤ q.c → negsuc i *ℤ p.d ≡ pos (suc j) *ℤ q.d → ⊥
+opposite_multiples p q i j ea eb ec ed =
+    let same = same_numbers (suc i) (suc j) (neg_ℤ p.a) (neg_ℤ p.b) (neg_ℤ p.c) (neg_ℤ p.d) q.a q.b q.c q.d (omega arith) (omega arith) (coprime-neg p.a p.b p.c p.d p.coprime) q.coprime
+        (turn_first i j p.a q.a ea) (turn_first i j p.b q.b eb) (turn_first i j p.c q.c ec) (turn_first i j p.d q.d ed) in
+    leads_once p.a p.b p.c p.signed (rw (same.0, same.1, same.2) q.signed)
+
+-- planes of which a multiple is a multiple of the other are one
+pub same_from_multiples : (p q : Plane) (m n : ℤ) → m ≢ pos 0 → n ≢ pos 0
+    → m *ℤ p.a ≡ n *ℤ q.a → m *ℤ p.b ≡ n *ℤ q.b → m *ℤ p.c ≡ n *ℤ q.c → m *ℤ p.d ≡ n *ℤ q.d → p ≡ q
+same_from_multiples p q (pos zero) n hm hn ea eb ec ed = absurd (hm refl)
+same_from_multiples p q (pos (suc i)) (pos zero) hm hn ea eb ec ed = absurd (hn refl)
+same_from_multiples p q (pos (suc i)) (pos (suc j)) hm hn ea eb ec ed =
+    let same = same_numbers (suc i) (suc j) p.a p.b p.c p.d q.a q.b q.c q.d (omega arith) (omega arith) p.coprime q.coprime ea eb ec ed in
+    same_plane p q same.0 same.1 same.2 same.3
+same_from_multiples p q (pos (suc i)) (negsuc j) hm hn ea eb ec ed = absurd (opposite_multiples q p j i (sym ea) (sym eb) (sym ec) (sym ed))
+same_from_multiples p q (negsuc i) (pos zero) hm hn ea eb ec ed = absurd (hn refl)
+same_from_multiples p q (negsuc i) (pos (suc j)) hm hn ea eb ec ed = absurd (opposite_multiples p q i j ea eb ec ed)
+same_from_multiples p q (negsuc i) (negsuc j) hm hn ea eb ec ed =
+    let same = same_numbers (suc i) (suc j) p.a p.b p.c p.d q.a q.b q.c q.d (omega arith) (omega arith) p.coprime q.coprime
+        (turn_both i j p.a q.a ea) (turn_both i j p.b q.b eb) (turn_both i j p.c q.c ec) (turn_both i j p.d q.d ed) in
+    same_plane p q same.0 same.1 same.2 same.3

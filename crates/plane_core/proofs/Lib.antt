@@ -5,4 +5,5 @@ pub mod Books
 pub mod Signed
 pub mod Reduction
 pub mod Cancel
+pub mod Multiples
 pub mod Laws

@@ -1,8 +1,9 @@
 -- Lists of planes without repeats, and the walls of the enclosing cube.
-use Rattle.std.specs.Prelude.{◌≢◌, List, [], ◌∷◌, ℤ, pos, negsuc}
+use Rattle.std.specs.Prelude.{◌≡◌, ◌≢◌, map, take, List, [], ◌∷◌, ℤ, pos, negsuc}
 use Rattle.std.specs.List.{AllPairs}
 use Rattle.spec_space.specs.declared.Plane.{Plane as AnyPlane}
 use Rattle.plane_core.specs.declared.numbers.Plane.{Plane}
+use Rattle.plane_core.specs.Views.{plane_of}
 
 -- no two planes of the list are equal
 abbrev pub AreDistinct : List Plane → Type 0
@@ -23,3 +24,12 @@ cube_walls =
     x_plane (negsuc 1048576) ∷ x_plane (pos 1048577)
     ∷ y_plane (negsuc 1048576) ∷ y_plane (pos 1048577)
     ∷ z_plane (negsuc 1048576) ∷ z_plane (pos 1048577) ∷ []
+
+-- the first six planes are the walls, in their order
+abbrev pub BeginsWithWalls : List Plane → Type 0
+BeginsWithWalls ps = map plane_of (take 6 ps) ≡ cube_walls
+
+-- the planes of a book, in the order of their numbers
+pub record IsBook (ps : List Plane) : Type 0 where
+  pub distinct : AreDistinct ps
+  pub walls : BeginsWithWalls ps

@@ -1,6 +1,6 @@
 ghost use Rattle.std.specs.Prelude.{◌≡◌, ◌+◌, ◌<◌, ◌≤◌, ◌^◌, ◌∷◌, [], ◌++◌, ℕ, Some, Contains, map, length, slice_get, IfOk, OnOk, OnErr};
 ghost use Rattle.plane_core.specs.Views.{plane_of};
-ghost use Rattle.plane_core.specs.Books.{cube_walls, AreDistinct};
+ghost use Rattle.plane_core.specs.Books.{cube_walls, AreDistinct, BeginsWithWalls};
 
 use crate::numbers::Plane;
 use crate::walls::{x_wall, y_wall, z_wall};
@@ -15,8 +15,8 @@ pub struct PlaneId {
     pub k: u32,
 }
 
-/// Planes by number: equal planes have one number, and a number stays with its plane. A contract sees the list of the
-/// planes, in the order of their numbers.
+/// Planes by number: equal planes have one number, a number stays with its plane, and the six walls of the enclosing cube
+/// have the numbers 0 to 5 (a rule of this project). A contract sees the list of the planes, in the order of their numbers.
 #[derive(Drop)]
 pub struct PlaneBook {
     planes: IndexSet<Plane>,
@@ -28,11 +28,11 @@ impl Model for PlaneBook {
 
     ghost Value = { List Plane };
 
-    ghost use Rattle.plane_core.specs.Books.{AreDistinct};
+    ghost use Rattle.plane_core.specs.Books.{IsBook};
 
     ghost view = { λ b. b.planes.keys };
 
-    ghost invariant = { λ b. AreDistinct b.planes.keys };
+    ghost invariant = { λ b. IsBook b.planes.keys };
 }
 
 impl PlaneBook {
@@ -43,22 +43,21 @@ impl PlaneBook {
         ensures count { IfOk result (λ book. length book ≡ 6) }
         ensures distinct { IfOk result AreDistinct }
     {
-        let mut book = PlaneBook {
-            planes: IndexSet::new(alloc),
-        };
-        book.add(x_wall(-1_048_577))?;
-        book.add(x_wall(1_048_577))?;
-        book.add(y_wall(-1_048_577))?;
-        book.add(y_wall(1_048_577))?;
-        book.add(z_wall(-1_048_577))?;
-        book.add(z_wall(1_048_577))?;
-        Ok(book)
+        let mut planes = IndexSet::new(alloc);
+        planes.insert(x_wall(-1_048_577))?;
+        planes.insert(x_wall(1_048_577))?;
+        planes.insert(y_wall(-1_048_577))?;
+        planes.insert(y_wall(1_048_577))?;
+        planes.insert(z_wall(-1_048_577))?;
+        planes.insert(z_wall(1_048_577))?;
+        Ok(PlaneBook { planes })
     }
 
     /// How many planes the book has.
     pub fn count(&self) -> usize
         ensures value { result ≡ length self.now }
         ensures distinct { AreDistinct self.now }
+        ensures walls { BeginsWithWalls self.now }
     {
         self.planes.len()
     }
@@ -67,6 +66,8 @@ impl PlaneBook {
     pub fn plane(&self, id: PlaneId) -> &Plane
         requires given { id.k < length self.now }
         ensures value { slice_get self.now id.k ≡ Some result.now }
+        ensures distinct { AreDistinct self.now }
+        ensures walls { BeginsWithWalls self.now }
     {
         match self.planes.get_index(id.k as usize) {
             Some(plane) => plane,
@@ -84,6 +85,7 @@ impl PlaneBook {
         ensures kept { (k : ℕ) → k < length self.old → slice_get self.new k ≡ slice_get self.old k }
         ensures grown { (length self.old ≤ length self.new) × (length self.new ≤ length self.old + 1) }
         ensures distinct { AreDistinct self.new }
+        ensures walls { BeginsWithWalls self.new }
         ensures err { OnErr result (self.new ≡ self.old) }
     {
         let (index, _) = self.planes.insert_full(p)?;

@@ -1,9 +1,12 @@
 use Rattle.std.proofs.Common.{Some, ap, sym, ◌∙◌, subst, Contains}
-use Rattle.plane_core.proofs.Books.{same_from_eq, distinct_keys, insert_known, insert_new, insert_keeps, insert_grows}
+use Rattle.plane_core.proofs.Books.{same_from_eq, distinct_keys, insert_known, insert_new, insert_keeps, insert_grows, insert_walls}
 use Rattle.plane_core.proofs.book.PlaneBook.add.Goals as goal
 
 pub invariant_of-self-2 : goal.invariant_of-self-2
-invariant_of-self-2 c = distinct_keys c.insert_full.new.self.keys c.in_ok-index.ensures.unique
+invariant_of-self-2 c = record {
+  distinct = distinct_keys c.insert_full.new.self.keys c.in_ok-index.ensures.unique;
+  walls = insert_walls c.self.inside.planes.keys c.insert_full.new.self.keys c.args.p c.in_ok-index.ensures.keys c.self.invariant.walls;
+}
 
 pub returns-clause-number : goal.returns-clause-number
 returns-clause-number c = let s = c.in_ok-index.ensures.stored in s.1 ∙ ap Some (sym (same_from_eq c.args.p s.0 s.2))
@@ -26,3 +29,6 @@ returns-clause-distinct c = distinct_keys c.insert_full.new.self.keys c.in_ok-in
 pub returns-clause-grown : goal.returns-clause-grown
 returns-clause-grown c = rw (← c.self.view_is)
     (insert_grows c.self.inside.planes.keys c.insert_full.new.self.keys c.args.p c.in_ok-index.ensures.keys)
+
+pub returns-clause-walls : goal.returns-clause-walls
+returns-clause-walls c = insert_walls c.self.inside.planes.keys c.insert_full.new.self.keys c.args.p c.in_ok-index.ensures.keys c.self.invariant.walls
