@@ -8,3 +8,4 @@ pub mod Segments
 pub mod Spares
 pub mod Hulls
 pub mod Edges
+pub mod Flags

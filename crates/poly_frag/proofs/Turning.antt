@@ -37,7 +37,7 @@ chain_turns s e (f ∷ fs) last c a =
       chain_turns s f fs last c.1 (All-tail (IsEdgeOf s) f fs a))
 
 -- the step before the first of a round has the last side
-chain_last : (e : Step) (fs : List Step) (last : Step) → AreChained e fs last → last_of e.side (sides fs) ≡ last.prev
+pub chain_last : (e : Step) (fs : List Step) (last : Step) → AreChained e fs last → last_of e.side (sides fs) ≡ last.prev
 chain_last e [] last c = c.2
 chain_last e (f ∷ fs) last c = chain_last f fs last c.1
 
@@ -58,7 +58,7 @@ steps_turn s (e ∷ es) c = round_turns s e es c.round c.edges
 pub cycle_turns : (planes : List BookPlane) (f : Frag) → IsCycle planes f → TurnsRound (support_of planes f) (sides_of planes f)
 cycle_turns planes f c = subst (TurnsRound (support_of planes f)) (sym c.sides) (steps_turn (support_of planes f) c.steps c.convex)
 
-last_mapped : (planes : List BookPlane) (e : Edge) (es : List Edge) → last_of (side_of planes e) (map (side_of planes) es) ≡ side_of planes (last_edge e es)
+pub last_mapped : (planes : List BookPlane) (e : Edge) (es : List Edge) → last_of (side_of planes e) (map (side_of planes) es) ≡ side_of planes (last_edge e es)
 last_mapped planes e [] = refl
 last_mapped planes e (f ∷ fs) = last_mapped planes f fs
 

@@ -1,5 +1,5 @@
 -- What a plane leaves of a fragment on its two sides.
-use Rattle.std.specs.Prelude.{◌≡◌, ⊥, true, false, List}
+use Rattle.std.specs.Prelude.{◌≡◌, true, false, List}
 use Rattle.spec_space.specs.Points.{opposite}
 use Rattle.plane_core.specs.declared.numbers.Plane.{Plane as BookPlane}
 use Rattle.plane_core.specs.declared.book.PlaneId.{PlaneId}

@@ -1,15 +1,13 @@
 ghost use Rattle.std.specs.Prelude.{◌≡◌, ◌≢◌, ◌+◌, ◌<◌, length, IfOk};
-ghost use Rattle.spec_space.specs.Points.{value, opposite};
-ghost use Rattle.plane_core.specs.Views.{point_of};
-ghost use Rattle.poly_frag.specs.Frags.{side_of, IsPartOf, AreEdgesOf};
-ghost use Rattle.poly_frag.specs.Cycles.{IsCycle, IsFragment, AreCorners};
+ghost use Rattle.std.specs.List.{list_any};
+ghost use Rattle.poly_frag.specs.Cycles.{IsFragment};
 ghost use Rattle.poly_frag.specs.Splits.{IsSplit, AreSplitFragments, AreSplitEdges};
 ghost use Rattle.poly_frag.specs.Clips.{kept_edges};
 
 use crate::clip::clipped;
 use crate::meets::{corners, kept_corners};
 use crate::frag::{Edge, Frag, Split};
-use plane_core::{Corner, PlaneBook, PlaneId};
+use plane_core::{PlaneBook, PlaneId};
 use std::alloc::{AllocError, Global};
 
 /// What lies of the fragment in front of a plane, and what behind it. The plane is not the fragment's own. The error is
@@ -33,15 +31,22 @@ pub fn split(alloc: Global, book: &PlaneBook, f: &Frag, by: PlaneId) -> Result<S
     let corners = corners(alloc, book, f)?;
     let in_front = kept_corners(alloc, book, front, corners.as_slice())?;
     let behind = kept_corners(alloc, book, back, corners.as_slice())?;
-    if !behind.contains(&true) {
+    if !keeps_any(&behind) {
         return Ok(Split::Front(f.copy(alloc)?));
     }
-    if !in_front.contains(&true) {
+    if !keeps_any(&in_front) {
         return Ok(Split::Back(f.copy(alloc)?));
     }
     let first = part(alloc, f, front, &in_front)?;
     let second = part(alloc, f, back, &behind)?;
     Ok(Split::Both(first, second))
+}
+
+/// Whether some corner is kept.
+pub(crate) fn keeps_any(kept: &[bool]) -> bool
+    ensures value { result ≡ list_any (λ b. b) kept.now }
+{
+    kept.contains(&true)
 }
 
 /// The part of the fragment that the cut keeps, by the corners that it keeps.
