@@ -1,5 +1,5 @@
 -- Sides: planes of which the front is kept.
-use Rattle.std.specs.Prelude.{◌≡◌, ℤ, pos, ◌<ℤ◌, ◌≤ℤ◌, List, All}
+use Rattle.std.specs.Prelude.{◌≡◌, Bool, ℤ, pos, ◌<ℤ◌, ◌≤ℤ◌, int_lt, List, All}
 use Rattle.spec_space.specs.declared.Point.{Point}
 use Rattle.spec_space.specs.declared.Plane.{Plane}
 use Rattle.spec_space.specs.Points.{IsPoint, value, normal, dot, cross, way_between}
@@ -11,3 +11,7 @@ IsWithin sides p = All (λ h. pos 0 <ℤ value h p) sides
 -- inside each side or on its plane
 abbrev pub IsTouching : List Plane → Point → Type 0
 IsTouching sides p = All (λ h. pos 0 ≤ℤ value h p) sides
+
+-- whether the point lies strictly in front
+abbrev pub is_in_front : Plane → Point → Bool
+is_in_front h p = int_lt (pos 0) (value h p)
