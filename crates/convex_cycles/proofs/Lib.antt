@@ -1,1 +1,11 @@
 pub mod Lists
+pub mod Orders
+pub mod Quotes
+pub mod Crossings
+pub mod Turns
+pub mod NewEdges
+pub mod Segments
+pub mod Flags
+pub mod Keeping
+pub mod Remains
+pub mod Parts

@@ -2,7 +2,7 @@
 use Rattle.std.specs.Prelude.{◌≡◌, Bool, ℤ, pos, ◌<ℤ◌, ◌≤ℤ◌, int_lt, List, All}
 use Rattle.spec_space.specs.declared.Point.{Point}
 use Rattle.spec_space.specs.declared.Plane.{Plane}
-use Rattle.spec_space.specs.Points.{IsPoint, value, normal, dot, cross, way_between}
+use Rattle.spec_space.specs.Points.{value}
 
 -- strictly inside each side
 abbrev pub IsWithin : List Plane → Point → Type 0
