@@ -9,3 +9,4 @@ pub mod Flags
 pub mod Keeping
 pub mod Remains
 pub mod Parts
+pub mod Rounds
