@@ -10,3 +10,4 @@ pub mod Keeping
 pub mod Remains
 pub mod Parts
 pub mod Rounds
+pub mod CutRounds
