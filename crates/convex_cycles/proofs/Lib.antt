@@ -11,3 +11,5 @@ pub mod Remains
 pub mod Parts
 pub mod Rounds
 pub mod CutRounds
+pub mod CutSides
+pub mod CutCycles
