@@ -6,5 +6,8 @@ pub mod Turns
 pub mod NewEdges
 pub mod Segments
 pub mod Spares
-pub mod Hulls
+pub mod Fronts
 pub mod Edges
+pub mod Links
+pub mod Reaches
+pub mod Inner
