@@ -11,3 +11,4 @@ pub mod Edges
 pub mod Links
 pub mod Reaches
 pub mod Inner
+pub mod Hull
