@@ -13,3 +13,10 @@ pub mod Rounds
 pub mod CutRounds
 pub mod CutSides
 pub mod CutCycles
+pub mod Spares
+pub mod Fronts
+pub mod Edges
+pub mod Links
+pub mod Reaches
+pub mod Inner
+pub mod Hull
