@@ -1,17 +1,15 @@
 -- A convex cycle that a plane cuts: what is left is a convex cycle.
-use Rattle.std.proofs.Common.{◌≡◌, ◌⊎◌, inl, inr, true, false, List, [], ◌∷◌, ◌++◌, pos, ◌<ℤ◌, ◌≤ℤ◌, refl, sym, subst, ap}
+use Rattle.std.proofs.Common.{◌≡◌, ◌⊎◌, inl, inr, List, [], ◌∷◌, pos, ◌<ℤ◌, ◌≤ℤ◌, refl}
 use Rattle.spec_space.specs.declared.Point.{Point}
 use Rattle.spec_space.specs.declared.Plane.{Plane}
 use Rattle.spec_space.specs.Points.{IsPoint, value}
-use Rattle.convex_cycles.specs.Sides.{is_in_front}
 use Rattle.convex_cycles.specs.Cycles.{Step, IsEdgeOf, KeepEachOther, IsRound, AreConvex}
-use Rattle.convex_cycles.proofs.Lists.{Each, EachPair, Member, each_member, each_from_members, each_weaker, each_from_all, all_from_each, pair_from_all, all_from_pair}
-use Rattle.convex_cycles.proofs.Orders.{not_both}
-use Rattle.convex_cycles.proofs.Flags.{front_flag}
-use Rattle.convex_cycles.proofs.NewEdges.{along}
-use Rattle.convex_cycles.proofs.Keeping.{Leaves, Enters, OneOrKept, member_pair, touches_start, touches_end}
-use Rattle.convex_cycles.proofs.Rounds.{before, after, changes, ends_from_starts, HasBefore, HasAfter}
-use Rattle.convex_cycles.proofs.Remains.{parts, parts_of, cut_steps}
+use Rattle.convex_cycles.proofs.Lists.{Each, EachPair, Member, each_member, each_from_members, each_from_all, all_from_each, pair_from_all, all_from_pair}
+use Rattle.convex_cycles.proofs.Crossings.{In}
+use Rattle.convex_cycles.proofs.Links.{IsLinked, sides, side_member}
+use Rattle.convex_cycles.proofs.Keeping.{Enters, OneOrKept, member_pair, touches_start, touches_end}
+use Rattle.convex_cycles.proofs.Rounds.{before, after}
+use Rattle.convex_cycles.proofs.Remains.{cut_steps}
 use Rattle.convex_cycles.proofs.Parts.{cut_edges, cut_pairs}
 use Rattle.convex_cycles.proofs.CutRounds.{cut_round}
 
@@ -29,9 +27,9 @@ from_cycle s steps c = record { round = c.round; edges = all_from_each (IsEdgeOf
 
 -- an inner point of a cycle: in its plane, and strictly inside each side
 pub record IsInner (s : Plane) (steps : List Step) (q : Point) : Type 0 where
-  pub point : IsPoint q
+  pub is_point : IsPoint q
   pub on : value s q ≡ pos 0
-  pub within : Each (λ e. pos 0 <ℤ value e.side q) steps
+  pub within : Each (In q) (sides steps)
 
 module _ (s : Plane) (steps : List Step) (cycle : IsCycle s steps) where
   pub edge_of : (e : Step) → Member e steps → IsEdgeOf s e
@@ -44,26 +42,36 @@ module _ (s : Plane) (steps : List Step) (cycle : IsCycle s steps) where
   pub end_touches : (e f : Step) → Member e steps → Member f steps → pos 0 ≤ℤ value e.side f.end
   end_touches e f m n = touches_end s e f (edge_of e m) (member_pair e f steps cycle.pairs m n)
 
-  pub corners_touch : Each (λ e. Each (λ f. (pos 0 ≤ℤ value e.side f.start) × (pos 0 ≤ℤ value e.side f.end)) steps) steps
-  corners_touch = each_from_members (λ e. Each (λ f. (pos 0 ≤ℤ value e.side f.start) × (pos 0 ≤ℤ value e.side f.end)) steps) steps
-      (λ e m. each_from_members (λ f. (pos 0 ≤ℤ value e.side f.start) × (pos 0 ≤ℤ value e.side f.end)) steps (λ f n. (start_touches e f m n, end_touches e f m n)))
+  -- the steps by membership
+  pub linked : IsLinked s steps
+  linked =
+      let e = some_member steps cycle.round in
+      record {
+        first = e.0;
+        first_of = e.1;
+        edges = cycle.edges;
+        inside = start_touches;
+        before = λ e m. let r = before steps cycle.round e m in record { step = r.0; of_list = r.1; holds = r.2 };
+        after = λ e m. let r = after steps cycle.round e m in record { step = r.0; of_list = r.1; holds = r.2 };
+      }
+    where
+      some_member : (es : List Step) → IsRound es → (e : Step) × Member e es
+      some_member [] round = absurd round
+      some_member (e ∷ es) round = (e, inl refl)
 
-  pub each_before : Each (HasBefore steps) steps
-  each_before = each_from_members (HasBefore steps) steps (before steps cycle.round)
-
-  pub each_after : Each (HasAfter steps) steps
-  each_after = each_from_members (HasAfter steps) steps (after steps cycle.round)
+  inside_of : (q : Point) → IsInner s steps q → (e : Step) → Member e steps → In q e.side
+  inside_of q inner e m = each_member (In q) e.side (sides steps) (side_member e steps m) inner.within
 
   -- the new cycle, where the edge v enters and q is an inner point on the cut
   pub cut-IsCycle : (k : Plane) (q : Point) → IsInner s steps q → value k q ≡ pos 0 → (v : Step) → Member v steps → Enters k v → IsCycle s (cut_steps k v steps)
   cut-IsCycle k q inner on_cut v m nv =
       let v_edge = edge_of v m in
-      let v_inside = each_member (λ e. pos 0 <ℤ value e.side q) v steps m inner.within in
+      let v_inside = inside_of q inner v m in
       let all = each_from_members (λ e. (IsEdgeOf s e × (pos 0 <ℤ value e.side q)) × OneOrKept e v) steps
-          (λ e n. ((edge_of e n, each_member (λ e. pos 0 <ℤ value e.side q) e steps n inner.within), member_pair e v steps cycle.pairs n m)) in
+          (λ e n. ((edge_of e n, inside_of q inner e n), member_pair e v steps cycle.pairs n m)) in
       let stands = each_from_members (λ e. IsEdgeOf s e × OneOrKept e v) steps (λ e n. (edge_of e n, member_pair e v steps cycle.pairs n m)) in
       record {
         round = cut_round s k v v_edge nv steps stands cycle.round m;
-        edges = cut_edges s k q inner.point inner.on on_cut v (v_edge, v_inside) nv steps all;
-        pairs = cut_pairs s k q inner.point inner.on on_cut v (v_edge, v_inside) nv steps all cycle.pairs;
+        edges = cut_edges s k q inner.is_point inner.on on_cut v (v_edge, v_inside) nv steps all;
+        pairs = cut_pairs s k q inner.is_point inner.on on_cut v (v_edge, v_inside) nv steps all cycle.pairs;
       }

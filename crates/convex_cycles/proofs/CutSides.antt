@@ -3,6 +3,7 @@ use Rattle.std.proofs.Common.{◌≡◌, Bool, true, false, List, [], ◌∷◌,
 use Rattle.spec_space.specs.declared.Plane.{Plane}
 use Rattle.convex_cycles.specs.Sides.{is_in_front}
 use Rattle.convex_cycles.specs.Cycles.{Step, AreChained, IsRound}
+use Rattle.convex_cycles.proofs.Links.{sides}
 use Rattle.convex_cycles.proofs.Remains.{parts, parts_of, cut_steps}
 
 -- the sides that one side gives, where the corners at its start and its end are kept or not
@@ -26,9 +27,6 @@ start_flag k e = is_in_front k e.start
 abbrev pub round_flags : Plane → List Step → List Bool
 round_flags k [] = []
 round_flags k (e ∷ es) = start_flag k e ∷ (map (start_flag k) es ++ start_flag k e ∷ [])
-
-abbrev pub sides : List Step → List Plane
-sides steps = map (λ e. e.side) steps
 
 parts_sides : (k : Plane) (v e : Step) (b c : Bool) (rest : List Step) → sides (parts k v e b c ++ rest) ≡ sides_of_one k e.side b c ++ sides rest
 parts_sides k v e true true rest = refl

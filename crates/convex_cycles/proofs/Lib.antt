@@ -11,8 +11,6 @@ pub mod Remains
 pub mod Parts
 pub mod Rounds
 pub mod CutRounds
-pub mod CutSides
-pub mod CutCycles
 pub mod Spares
 pub mod Fronts
 pub mod Edges
@@ -20,3 +18,6 @@ pub mod Links
 pub mod Reaches
 pub mod Inner
 pub mod Hull
+pub mod CutSides
+pub mod CutCycles
+pub mod Partition
