@@ -14,15 +14,15 @@ use Rattle.convex_cycles.proofs.Parts.{cut_edges, cut_pairs}
 use Rattle.convex_cycles.proofs.CutRounds.{cut_round}
 
 -- the facts of a convex cycle by recursion on its list
-pub record IsCycle (s : Plane) (steps : List Step) : Type 0 where
+pub record CycleFacts (s : Plane) (steps : List Step) : Type 0 where
   pub round : IsRound steps
   pub edges : Each (IsEdgeOf s) steps
   pub pairs : EachPair KeepEachOther steps
 
-pub to_cycle : (s : Plane) (steps : List Step) → AreConvex s steps → IsCycle s steps
+pub to_cycle : (s : Plane) (steps : List Step) → AreConvex s steps → CycleFacts s steps
 to_cycle s steps c = record { round = c.round; edges = each_from_all (IsEdgeOf s) steps c.edges; pairs = pair_from_all KeepEachOther steps c.convex }
 
-pub from_cycle : (s : Plane) (steps : List Step) → IsCycle s steps → AreConvex s steps
+pub from_cycle : (s : Plane) (steps : List Step) → CycleFacts s steps → AreConvex s steps
 from_cycle s steps c = record { round = c.round; edges = all_from_each (IsEdgeOf s) steps c.edges; convex = all_from_pair KeepEachOther steps c.pairs }
 
 -- an inner point of a cycle: in its plane, and strictly inside each side
@@ -31,7 +31,7 @@ pub record IsInner (s : Plane) (steps : List Step) (q : Point) : Type 0 where
   pub on : value s q ≡ pos 0
   pub within : Each (In q) (sides steps)
 
-module _ (s : Plane) (steps : List Step) (cycle : IsCycle s steps) where
+module _ (s : Plane) (steps : List Step) (cycle : CycleFacts s steps) where
   pub edge_of : (e : Step) → Member e steps → IsEdgeOf s e
   edge_of e m = each_member (IsEdgeOf s) e steps m cycle.edges
 
@@ -63,8 +63,8 @@ module _ (s : Plane) (steps : List Step) (cycle : IsCycle s steps) where
   inside_of q inner e m = each_member (In q) e.side (sides steps) (side_member e steps m) inner.within
 
   -- the new cycle, where the edge v enters and q is an inner point on the cut
-  pub cut-IsCycle : (k : Plane) (q : Point) → IsInner s steps q → value k q ≡ pos 0 → (v : Step) → Member v steps → Enters k v → IsCycle s (cut_steps k v steps)
-  cut-IsCycle k q inner on_cut v m nv =
+  pub cut-facts : (k : Plane) (q : Point) → IsInner s steps q → value k q ≡ pos 0 → (v : Step) → Member v steps → Enters k v → CycleFacts s (cut_steps k v steps)
+  cut-facts k q inner on_cut v m nv =
       let v_edge = edge_of v m in
       let v_inside = inside_of q inner v m in
       let all = each_from_members (λ e. (IsEdgeOf s e × (pos 0 <ℤ value e.side q)) × OneOrKept e v) steps

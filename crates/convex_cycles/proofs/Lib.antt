@@ -21,3 +21,4 @@ pub mod Hull
 pub mod CutSides
 pub mod CutCycles
 pub mod Partition
+pub mod Cuts

@@ -50,19 +50,20 @@ pub ends_from_starts : (P : Point → Type 0) (steps : List Step) → IsRound st
 ends_from_starts P steps round starts e m = let r = after steps round e m in subst P (sym r.2.0) (starts r.0 r.1)
 
 -- ---- two kinds of corners
+-- some edge begins at such a corner
+abbrev pub Begins : (Point → Type 0) → List Step → Type 0
+Begins R steps = (x : Step) × Member x steps × R x.start
+
+-- an edge from a corner of the first kind to one of the second
+abbrev pub Changes : (Point → Type 0) → (Point → Type 0) → List Step → Type 0
+Changes P Q steps = (x : Step) × Member x steps × P x.start × Q x.end
+
 module _ (P Q : Point → Type 0) (decide : (c : Point) → P c ⊎ Q c) (apart : (c : Point) → P c → Q c → ⊥) where
-  -- an edge from a corner of the first kind to one of the second
-  abbrev pub Changes : List Step → Type 0
-  Changes steps = (x : Step) × Member x steps × P x.start × Q x.end
-
-  abbrev pub Begins : (Point → Type 0) → List Step → Type 0
-  Begins R steps = (x : Step) × Member x steps × R x.start
-
-  later : (e : Step) (fs : List Step) → Changes fs → Changes (e ∷ fs)
+  later : (e : Step) (fs : List Step) → Changes P Q fs → Changes P Q (e ∷ fs)
   later e fs r = (r.0, inr r.1, r.2, r.3)
 
   -- from a corner of the first kind to a later one of the second
-  rises : (e : Step) (fs : List Step) (last : Step) → AreChained e fs last → P e.start → Begins Q fs ⊎ Q last.start → Changes (e ∷ fs)
+  rises : (e : Step) (fs : List Step) (last : Step) → AreChained e fs last → P e.start → Begins Q fs ⊎ Q last.start → Changes P Q (e ∷ fs)
   rises e [] last c low (inl b) = absurd b.1
   rises e [] last c low (inr high) = (e, inl refl, low, subst Q (sym c.0) high)
   rises e (g ∷ gs) last c low high = elim (decide e.end) [
@@ -77,7 +78,7 @@ module _ (P Q : Point → Type 0) (decide : (c : Point) → P c ⊎ Q c) (apart 
       ]
       rest low (inr high) = inr high
 
-  rises_later : (e : Step) (fs : List Step) (last : Step) → AreChained e fs last → Begins P (e ∷ fs) → Q last.start → Changes (e ∷ fs)
+  rises_later : (e : Step) (fs : List Step) (last : Step) → AreChained e fs last → Begins P (e ∷ fs) → Q last.start → Changes P Q (e ∷ fs)
   rises_later e [] last c b high = elim b.1 [
     | inl same ↦ rises e [] last c (subst (λ x. P x.start) same b.2) (inr high)
     | inr m ↦ absurd m
@@ -88,7 +89,7 @@ module _ (P Q : Point → Type 0) (decide : (c : Point) → P c ⊎ Q c) (apart 
   ]
 
   -- a cycle with corners of both kinds has such an edge
-  pub changes : (steps : List Step) → IsRound steps → Begins P steps → Begins Q steps → Changes steps
+  pub changes : (steps : List Step) → IsRound steps → Begins P steps → Begins Q steps → Changes P Q steps
   changes [] round low high = absurd low.1
   changes (e ∷ es) round low high = elim (decide e.start) [
     | inl first ↦ rises e es e round first (inl (elim high.1 [
@@ -97,3 +98,18 @@ module _ (P Q : Point → Type 0) (decide : (c : Point) → P c ⊎ Q c) (apart 
     ]))
     | inr first ↦ rises_later e es e round low first
   ]
+
+  -- some corner is of the second kind, or each is of the first
+  pub some_or_none : (steps : List Step) → Begins Q steps ⊎ ((e : Step) → Member e steps → P e.start)
+  some_or_none [] = inr (λ e m. absurd m)
+  some_or_none (x ∷ xs) = elim (decide x.start) [
+    | inr high ↦ inl (x, inl refl, high)
+    | inl low ↦ elim (some_or_none xs) [
+      | inl b ↦ inl (b.0, inr b.1, b.2)
+      | inr none ↦ inr (all x xs low none)
+    ]
+  ]
+    where
+      all : (x : Step) (xs : List Step) → P x.start → ((e : Step) → Member e xs → P e.start) → (e : Step) → Member e (x ∷ xs) → P e.start
+      all x xs low none e (inl same) = subst (λ y. P y.start) (sym same) low
+      all x xs low none e (inr m) = none e m
