@@ -63,6 +63,20 @@ member_map f x [] m = absurd m
 member_map f x (y ∷ ys) (inl same) = inl (λ i. f (same i))
 member_map f x (y ∷ ys) (inr m) = inr (member_map f x ys m)
 
+pub member_left : {X : Type 0} (x : X) (xs ys : List X) → Member x xs → Member x (xs ++ ys)
+member_left x [] ys m = absurd m
+member_left x (y ∷ xs) ys (inl same) = inl same
+member_left x (y ∷ xs) ys (inr m) = inr (member_left x xs ys m)
+
+pub member_right : {X : Type 0} (x : X) (xs ys : List X) → Member x ys → Member x (xs ++ ys)
+member_right x [] ys m = m
+member_right x (y ∷ xs) ys m = inr (member_right x xs ys m)
+
+pub member_joined : {X Y : Type 0} (f : X → List Y) (y : Y) (x : X) (xs : List X) → Member x xs → Member y (f x) → Member y (joined f xs)
+member_joined f y x [] m n = absurd m
+member_joined f y x (z ∷ zs) (inl same) n = member_left y (f z) (joined f zs) (subst (λ t. Member y (f t)) same n)
+member_joined f y x (z ∷ zs) (inr m) n = member_right y (f z) (joined f zs) (member_joined f y x zs m n)
+
 pub each_joined : {X Y : Type 0} (P : Y → Type 0) (f : X → List Y) (xs : List X) → Each (λ x. Each P (f x)) xs → Each P (joined f xs)
 each_joined P f [] e = tt
 each_joined P f (x ∷ xs) e = each_append P (f x) (joined f xs) e.0 (each_joined P f xs e.1)
