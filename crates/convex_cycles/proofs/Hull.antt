@@ -155,15 +155,15 @@ module _ (s : Plane) (steps : List Step) (linked : IsLinked s steps) where
       → (p : Point) → value s p ≡ pos 0 → Each (In p) (sides steps) → pos 0 <ℤ value h p
   strict_hull h high c c_of front p on within = above_zero (value h p) (weak_hull h high p on within) not_on
     where
-      n : ℕ
-      n = reach (λ g. value g c.start) (sides steps)
+      far : ℕ
+      far = reach (λ g. value g c.start) (sides steps)
 
       not_on : value h p ≡ pos 0 → ⊥
       not_on e =
           not_both (value h c.start) front
-          (sunk_corner (pos n) (value h p) (value h c.start) e
-          (subst (λ v. pos 0 ≤ℤ v) (beyond-value n p c.start h)
-          (weak_hull h high (beyond n p c.start) (mean_zero (pos n) (negsuc 0) p c.start s on (edge s steps linked c c_of).start_on) (beyond_within n p c.start (sides steps) (omega arith) within))))
+          (sunk_corner (pos far) (value h p) (value h c.start) e
+          (subst (λ v. pos 0 ≤ℤ v) (beyond-value far p c.start h)
+          (weak_hull h high (beyond far p c.start) (mean_zero (pos far) (negsuc 0) p c.start s on (edge s steps linked c c_of).start_on) (beyond_within far p c.start (sides steps) (omega arith) within))))
         where
           sunk_corner : (n v w : ℤ) → v ≡ pos 0 → pos 0 ≤ℤ (n *ℤ v +ℤ neg_ℤ w) → w ≤ℤ pos 0
           sunk_corner n v w e h = from w (subst (λ x. pos 0 ≤ℤ (n *ℤ x +ℤ neg_ℤ w)) e h)

@@ -12,3 +12,4 @@ pub mod Links
 pub mod Reaches
 pub mod Inner
 pub mod Hull
+pub mod Cells
