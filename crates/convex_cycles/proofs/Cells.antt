@@ -1,5 +1,5 @@
 -- A cell between walls, and a plane that cuts it.
-use Rattle.std.proofs.Common.{◌≡◌, List, [], ◌∷◌, ◌+◌, ◌≤◌, ℕ, ℤ, pos, neg_ℤ, ◌+ℤ◌, ◌*ℤ◌, ◌<ℤ◌, ◌≤ℤ◌, unsigned_abs, refl, sym, ap, ◌∙◌, subst, arith}
+use Rattle.std.proofs.Common.{◌≡◌, List, [], ◌∷◌, ◌≤◌, ℕ, ℤ, pos, ◌+ℤ◌, ◌*ℤ◌, ◌<ℤ◌, ◌≤ℤ◌, refl, sym, ap, ◌∙◌, subst, arith}
 use Rattle.std.proofs.lemmas.Int.{ints}
 use Rattle.integer_laws.proofs.Ring.{var, ◌⊕◌, ◌⊗◌, ring}
 use Rattle.integer_laws.proofs.Signs.{mul_positive}
@@ -10,7 +10,7 @@ use Rattle.convex_cycles.proofs.Lists.{Each}
 use Rattle.convex_cycles.proofs.Orders.{weaker}
 use Rattle.convex_cycles.proofs.Quotes.{valuee}
 use Rattle.convex_cycles.proofs.Reaches.{reach, reach_positive, positive_number, outdone}
-use Rattle.convex_cycles.proofs.Crossings.{In, crossing, crossing-IsPoint, crossing_on, crossing_zero, crossing_positive}
+use Rattle.convex_cycles.proofs.Crossings.{In, crossing, crossing-IsPoint, crossing_on, crossing_positive}
 
 -- ---- on the plane
 -- the crossing of a segment between two points that are strictly inside
