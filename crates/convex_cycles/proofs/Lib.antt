@@ -1,3 +1,4 @@
+pub mod Cells
 pub mod Crossings
 pub mod CutCycles
 pub mod CutRounds
