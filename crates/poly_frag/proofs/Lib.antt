@@ -1,3 +1,4 @@
 pub mod Turning
 pub mod Kept
 pub mod Starts
+pub mod Pieces

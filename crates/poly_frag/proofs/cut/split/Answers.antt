@@ -1,5 +1,6 @@
 use Rattle.std.proofs.Common.{refl}
 use Rattle.poly_frag.proofs.Starts.{flags_match}
+use Rattle.poly_frag.proofs.Pieces.{piece, part_in_cube}
 use Rattle.poly_frag.proofs.cut.split.Goals as goal
 
 pub part-requires : goal.part-requires
