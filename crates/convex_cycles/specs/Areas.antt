@@ -1,5 +1,5 @@
 -- When points of a plane span an area.
-use Rattle.std.specs.Prelude.{◌≢◌, pos}
+use Rattle.std.specs.Prelude.{◌≢◌, ℤ, pos}
 use Rattle.spec_space.specs.declared.Point.{Point}
 use Rattle.spec_space.specs.declared.Plane.{Plane}
 use Rattle.spec_space.specs.Points.{normal, dot, cross, way_between}

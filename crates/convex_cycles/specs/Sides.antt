@@ -1,8 +1,8 @@
 -- Sides: planes of which the front is kept.
-use Rattle.std.specs.Prelude.{pos, ◌<ℤ◌, ◌≤ℤ◌, List, All}
+use Rattle.std.specs.Prelude.{◌≡◌, ℤ, pos, ◌<ℤ◌, ◌≤ℤ◌, List, All}
 use Rattle.spec_space.specs.declared.Point.{Point}
 use Rattle.spec_space.specs.declared.Plane.{Plane}
-use Rattle.spec_space.specs.Points.{value}
+use Rattle.spec_space.specs.Points.{IsPoint, value, normal, dot, cross, way_between}
 
 -- strictly inside each side
 abbrev pub IsWithin : List Plane → Point → Type 0
