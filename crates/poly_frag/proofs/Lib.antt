@@ -1,1 +1,3 @@
 pub mod Squares
+pub mod Turned
+pub mod Across

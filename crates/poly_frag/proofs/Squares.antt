@@ -1,9 +1,10 @@
 -- The square across the enclosing cube: a convex cycle, and what it holds.
 use Rattle.std.proofs.Common.{◌≡◌, ℕ, zero, suc, ◌<◌, ◌≤◌, List, [], ◌∷◌, map, take, length, slice_get, Option, Some, None, ℤ, pos, negsuc, ◌+ℤ◌, ◌-ℤ◌, ◌*ℤ◌, neg_ℤ, ◌<ℤ◌, ◌≤ℤ◌, ◌⊎◌, inl, inr, refl, sym, ap, subst, ◌∙◌, arith}
-use Rattle.std.specs.Prelude.{All, ◌↔◌}
+use Rattle.std.specs.Prelude.{All}
+use Rattle.std.specs.List.{AllPairs}
 use Rattle.std.proofs.lemmas.Int.{ints}
 use Rattle.std.proofs.lemmas.List.Elements.{All-nil, All-cons}
-use Rattle.std.proofs.lemmas.List.Kept.{AllPairs-cons, AllPairs-nil}
+use Rattle.std.proofs.lemmas.List.Kept.{AllPairs-cons}
 use Rattle.integer_laws.proofs.Ring.{Expr, var, con, neg, ◌⊕◌, ◌⊗◌, ◌⊖◌, ring}
 use Rattle.integer_laws.proofs.Signs.{mul_positive}
 use Rattle.integer_laws.proofs.Products.{zero_right}
@@ -21,22 +22,34 @@ pub record IsSquare (s : Plane) (e f g h : Step) : Type 0 where
   pub second : KeepEachOther f g × KeepEachOther f h
   pub third : KeepEachOther g h
 
+one_of : {X : Type 0} (P : X → Type 0) (a : X) → P a → All P (a ∷ [])
+one_of P a p = All-cons P a [] p (All-nil P)
+
+two_of : {X : Type 0} (P : X → Type 0) (a b : X) → P a → P b → All P (a ∷ (b ∷ []))
+two_of P a b p q = All-cons P a (b ∷ []) p (one_of P b q)
+
+three_of : {X : Type 0} (P : X → Type 0) (a b c : X) → P a → P b → P c → All P (a ∷ (b ∷ (c ∷ [])))
+three_of P a b c p q r = All-cons P a (b ∷ (c ∷ [])) p (two_of P b c q r)
+
+pub four_of : {X : Type 0} (P : X → Type 0) (a b c d : X) → P a → P b → P c → P d → All P (a ∷ (b ∷ (c ∷ (d ∷ []))))
+four_of P a b c d p q r s = All-cons P a (b ∷ (c ∷ (d ∷ []))) p (three_of P b c d q r s)
+
+no_pairs : {X : Type 0} (R : X → X → Type 0) → AllPairs R []
+no_pairs R i j d h k = absurd (omega arith)
+
+pairs_of_four : {X : Type 0} (R : X → X → Type 0) (a b c d : X) → R a b → R a c → R a d → R b c → R b d → R c d → AllPairs R (a ∷ (b ∷ (c ∷ (d ∷ []))))
+pairs_of_four R a b c d ab ac ad bc bd cd =
+    AllPairs-cons R a (b ∷ (c ∷ (d ∷ []))) (three_of (R a) b c d ab ac ad)
+    (AllPairs-cons R b (c ∷ (d ∷ [])) (two_of (R b) c d bc bd)
+     (AllPairs-cons R c (d ∷ []) (one_of (R c) d cd)
+      (AllPairs-cons R d [] (All-nil (R d)) (no_pairs R))))
+
 pub square-AreConvex : (s : Plane) (e f g h : Step) → IsSquare s e f g h → AreConvex s (e ∷ (f ∷ (g ∷ (h ∷ []))))
 square-AreConvex s e f g h q = record {
   round = (q.round.0, (q.round.1, (q.round.2, q.round.3)));
-  edges = All-cons P e _ q.edges.0 (All-cons P f _ q.edges.1 (All-cons P g _ q.edges.2 (All-cons P h [] q.edges.3 (All-nil P))));
-  convex =
-    AllPairs-cons R e _ (All-cons (R e) f _ q.first.0 (All-cons (R e) g _ q.first.1 (All-cons (R e) h [] q.first.2 (All-nil (R e)))))
-    (AllPairs-cons R f _ (All-cons (R f) g _ q.second.0 (All-cons (R f) h [] q.second.1 (All-nil (R f))))
-     (AllPairs-cons R g _ (All-cons (R g) h [] q.third (All-nil (R g)))
-      (AllPairs-cons R h [] (All-nil (R h)) (AllPairs-nil R))));
+  edges = four_of (IsEdgeOf s) e f g h q.edges.0 q.edges.1 q.edges.2 q.edges.3;
+  convex = pairs_of_four KeepEachOther e f g h q.first.0 q.first.1 q.first.2 q.second.0 q.second.1 q.third;
 }
-  where
-    abbrev P : Step → Type 0
-    P = IsEdgeOf s
-
-    abbrev R : Step → Step → Type 0
-    R = KeepEachOther
 
 -- ---- the square along x: its corners at the y and z of size m
 abbrev pub square_corner : Plane → ℤ → ℤ → Point
@@ -72,21 +85,20 @@ module _ (s : Plane) (m : ℤ) (lead : pos 0 <ℤ s.a) (some : pos 0 <ℤ m) whe
       let numbers : List ℤ = s.a ∷ (s.b ∷ (s.c ∷ (s.d ∷ (y ∷ (z ∷ []))))) in
       ring numbers (var 0 ⊗ (var 3 ⊖ var 1 ⊗ var 4 ⊖ var 2 ⊗ var 5) ⊕ var 1 ⊗ (var 0 ⊗ var 4) ⊕ var 2 ⊗ (var 0 ⊗ var 5) ⊖ var 3 ⊗ var 0) (con (pos 0)) refl
 
-  ydist : (x d y z : ℤ) → pos 0 *ℤ x +ℤ pos 1 *ℤ (s.a *ℤ y) +ℤ pos 0 *ℤ z -ℤ d *ℤ s.a ≡ s.a *ℤ (y -ℤ d)
-  ydist x d y z =
-      ring (s.a ∷ (x ∷ (d ∷ (y ∷ (z ∷ []))))) (con (pos 0) ⊗ var 1 ⊕ con (pos 1) ⊗ (var 0 ⊗ var 3) ⊕ con (pos 0) ⊗ var 4 ⊖ var 2 ⊗ var 0) (var 0 ⊗ (var 3 ⊖ var 2)) refl
+  abbrev xs : ℤ → ℤ → ℤ → List ℤ
+  xs d y z = s.a ∷ ((square_corner s y z).x ∷ (d ∷ (y ∷ (z ∷ []))))
 
-  zdist : (x d y z : ℤ) → pos 0 *ℤ x +ℤ pos 0 *ℤ y +ℤ pos 1 *ℤ (s.a *ℤ z) -ℤ d *ℤ s.a ≡ s.a *ℤ (z -ℤ d)
-  zdist x d y z =
-      ring (s.a ∷ (x ∷ (d ∷ (y ∷ (z ∷ []))))) (con (pos 0) ⊗ var 1 ⊕ con (pos 0) ⊗ var 3 ⊕ con (pos 1) ⊗ (var 0 ⊗ var 4) ⊖ var 2 ⊗ var 0) (var 0 ⊗ (var 4 ⊖ var 2)) refl
+  ydist : (d y z : ℤ) → value (y_plane d) (square_corner s y z) ≡ s.a *ℤ (y -ℤ d)
+  ydist d y z = ring (xs d y z) (con (pos 0) ⊗ var 1 ⊕ con (pos 1) ⊗ (var 0 ⊗ var 3) ⊕ con (pos 0) ⊗ (var 0 ⊗ var 4) ⊖ var 2 ⊗ var 0) (var 0 ⊗ (var 3 ⊖ var 2)) refl
 
-  ydist_back : (x d y z : ℤ) → pos 0 *ℤ x +ℤ negsuc 0 *ℤ (s.a *ℤ y) +ℤ pos 0 *ℤ z -ℤ neg_ℤ d *ℤ s.a ≡ s.a *ℤ (d -ℤ y)
-  ydist_back x d y z =
-      ring (s.a ∷ (x ∷ (d ∷ (y ∷ (z ∷ []))))) (con (pos 0) ⊗ var 1 ⊕ con (negsuc 0) ⊗ (var 0 ⊗ var 3) ⊕ con (pos 0) ⊗ var 4 ⊖ neg (var 2) ⊗ var 0) (var 0 ⊗ (var 2 ⊖ var 3)) refl
+  zdist : (d y z : ℤ) → value (z_plane d) (square_corner s y z) ≡ s.a *ℤ (z -ℤ d)
+  zdist d y z = ring (xs d y z) (con (pos 0) ⊗ var 1 ⊕ con (pos 0) ⊗ (var 0 ⊗ var 3) ⊕ con (pos 1) ⊗ (var 0 ⊗ var 4) ⊖ var 2 ⊗ var 0) (var 0 ⊗ (var 4 ⊖ var 2)) refl
 
-  zdist_back : (x d y z : ℤ) → pos 0 *ℤ x +ℤ pos 0 *ℤ y +ℤ negsuc 0 *ℤ (s.a *ℤ z) -ℤ neg_ℤ d *ℤ s.a ≡ s.a *ℤ (d -ℤ z)
-  zdist_back x d y z =
-      ring (s.a ∷ (x ∷ (d ∷ (y ∷ (z ∷ []))))) (con (pos 0) ⊗ var 1 ⊕ con (pos 0) ⊗ var 3 ⊕ con (negsuc 0) ⊗ (var 0 ⊗ var 4) ⊖ neg (var 2) ⊗ var 0) (var 0 ⊗ (var 2 ⊖ var 4)) refl
+  ydist_back : (d y z : ℤ) → value (opposite (y_plane d)) (square_corner s y z) ≡ s.a *ℤ (d -ℤ y)
+  ydist_back d y z = ring (xs d y z) (con (pos 0) ⊗ var 1 ⊕ con (negsuc 0) ⊗ (var 0 ⊗ var 3) ⊕ con (pos 0) ⊗ (var 0 ⊗ var 4) ⊖ neg (var 2) ⊗ var 0) (var 0 ⊗ (var 2 ⊖ var 3)) refl
+
+  zdist_back : (d y z : ℤ) → value (opposite (z_plane d)) (square_corner s y z) ≡ s.a *ℤ (d -ℤ z)
+  zdist_back d y z = ring (xs d y z) (con (pos 0) ⊗ var 1 ⊕ con (pos 0) ⊗ (var 0 ⊗ var 3) ⊕ con (negsuc 0) ⊗ (var 0 ⊗ var 4) ⊖ neg (var 2) ⊗ var 0) (var 0 ⊗ (var 2 ⊖ var 4)) refl
 
   no_way : (d : ℤ) → s.a *ℤ (d -ℤ d) ≡ pos 0
   no_way d = zero_right s.a (d -ℤ d) (none d)
@@ -101,28 +113,28 @@ module _ (s : Plane) (m : ℤ) (lead : pos 0 <ℤ s.a) (some : pos 0 <ℤ m) whe
       wide m h = omega (arith, ints)
 
   bottom_on : (y : ℤ) → value (bottom m) (square_corner s y (neg_ℤ m)) ≡ pos 0
-  bottom_on y = zdist _ (neg_ℤ m) (s.a *ℤ y) (neg_ℤ m) ∙ no_way (neg_ℤ m)
+  bottom_on y = zdist (neg_ℤ m) y (neg_ℤ m) ∙ no_way (neg_ℤ m)
 
   bottom_in : (y : ℤ) → pos 0 <ℤ value (bottom m) (square_corner s y m)
-  bottom_in y = subst (λ v. pos 0 <ℤ v) (sym (zdist _ (neg_ℤ m) (s.a *ℤ y) m)) whole_way
+  bottom_in y = subst (λ v. pos 0 <ℤ v) (sym (zdist (neg_ℤ m) y m)) whole_way
 
   top_on : (y : ℤ) → value (top m) (square_corner s y m) ≡ pos 0
-  top_on y = zdist_back _ m (s.a *ℤ y) m ∙ no_way m
+  top_on y = zdist_back m y m ∙ no_way m
 
   top_in : (y : ℤ) → pos 0 <ℤ value (top m) (square_corner s y (neg_ℤ m))
-  top_in y = subst (λ v. pos 0 <ℤ v) (sym (zdist_back _ m (s.a *ℤ y) (neg_ℤ m))) whole_way
+  top_in y = subst (λ v. pos 0 <ℤ v) (sym (zdist_back m y (neg_ℤ m))) whole_way
 
   left_on : (z : ℤ) → value (left m) (square_corner s (neg_ℤ m) z) ≡ pos 0
-  left_on z = ydist _ (neg_ℤ m) (neg_ℤ m) (s.a *ℤ z) ∙ no_way (neg_ℤ m)
+  left_on z = ydist (neg_ℤ m) (neg_ℤ m) z ∙ no_way (neg_ℤ m)
 
   left_in : (z : ℤ) → pos 0 <ℤ value (left m) (square_corner s m z)
-  left_in z = subst (λ v. pos 0 <ℤ v) (sym (ydist _ (neg_ℤ m) m (s.a *ℤ z))) whole_way
+  left_in z = subst (λ v. pos 0 <ℤ v) (sym (ydist (neg_ℤ m) m z)) whole_way
 
   right_on : (z : ℤ) → value (right m) (square_corner s m z) ≡ pos 0
-  right_on z = ydist_back _ m m (s.a *ℤ z) ∙ no_way m
+  right_on z = ydist_back m m z ∙ no_way m
 
   right_in : (z : ℤ) → pos 0 <ℤ value (right m) (square_corner s (neg_ℤ m) z)
-  right_in z = subst (λ v. pos 0 <ℤ v) (sym (ydist_back _ m (neg_ℤ m) (s.a *ℤ z))) whole_way
+  right_in z = subst (λ v. pos 0 <ℤ v) (sym (ydist_back m (neg_ℤ m) z)) whole_way
 
   left_of : (a b c : ℤ) → pos 0 <ℤ a → pos 0 <ℤ (a *ℤ pos 1 +ℤ b *ℤ pos 0 +ℤ c *ℤ pos 0)
   left_of a b c h = omega (arith, ints)
