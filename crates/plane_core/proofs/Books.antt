@@ -107,7 +107,7 @@ take-append zero xs ys e = refl
 take-append (suc n) [] ys e = absurd (omega arith)
 take-append (suc n) (x ∷ xs) ys e = ap (λ (zs : List _). x ∷ zs) (take-append n xs ys (omega arith))
 
-length-map : {X Y : Type 0} → (f : X → Y) (xs : List X) → length (map f xs) ≡ length xs
+pub length-map : {X Y : Type 0} → (f : X → Y) (xs : List X) → length (map f xs) ≡ length xs
 length-map f [] = refl
 length-map f (x ∷ xs) = ap suc (length-map f xs)
 

@@ -1,9 +1,9 @@
 -- Laws of planes, points and books for the crates above: reduced planes are reduced in the words of the definitions, the
 -- common point of three planes is one, and values are linear.
-use Rattle.std.proofs.Common.{◌≡◌, ℕ, zero, suc, ◌<◌, Bool, true, false, List, [], ◌∷◌, slice_get, Some, ℤ, pos, negsuc, neg_ℤ, ◌+ℤ◌, ◌*ℤ◌, ◌<ℤ◌, unsigned_abs, refl, sym, ap, ◌∙◌, arith, ◌⊎◌, inl, inr, true≢false}
-use Rattle.std.specs.Prelude.{◌≢◌}
+use Rattle.std.proofs.Common.{◌≡◌, ℕ, zero, suc, ◌<◌, ◌≤◌, Bool, true, false, List, [], ◌∷◌, take, length, slice_get, Some, ℤ, pos, negsuc, neg_ℤ, ◌+ℤ◌, ◌*ℤ◌, ◌<ℤ◌, unsigned_abs, refl, sym, ap, ◌∙◌, arith, ◌⊎◌, inl, inr, true≢false}
+use Rattle.std.specs.Prelude.{◌≢◌, option_map}
 use Rattle.std.proofs.lemmas.Int.{ints, unsigned_abs-mul}
-use Rattle.std.proofs.lemmas.Option.{get_or_from_slice_get, slice_get_within}
+use Rattle.std.proofs.lemmas.Option.{get_or_from_slice_get, slice_get_within, slice_get-map}
 use Prim.Native.Nat.{◌∣◌}
 use native.Mathlib.Nat.{dvd-mul_right}
 use Rattle.integer_laws.proofs.Ring.{Expr, var, ◌⊕◌, ◌⊗◌, ◌⊖◌, ring}
@@ -17,12 +17,12 @@ use Rattle.plane_core.specs.Numbers.{AreCoprime, leads, leads_positive}
 use Rattle.plane_core.specs.Points.{times, plus, IsSamePoint}
 use Rattle.plane_core.specs.Views.{plane_of}
 use Rattle.plane_core.specs.Planes.{sign_of}
-use Rattle.plane_core.specs.Books.{AreDistinct}
+use Rattle.plane_core.specs.Books.{AreDistinct, BeginsWithWalls, cube_walls}
 use Rattle.plane_core.specs.declared.numbers.Plane.{Plane}
 use Rattle.plane_core.specs.declared.points.Sign.TheVariants.{Front, Back}
 use Rattle.plane_core.proofs.Cancel.{sign_cases, mul_zero_right}
 use Rattle.plane_core.proofs.Cramer as C
-use Rattle.plane_core.proofs.Books.{same_plane}
+use Rattle.plane_core.proofs.Books.{same_plane, length-map}
 use Rattle.plane_core.proofs.Signed.{coprime-neg}
 use Rattle.plane_core.proofs.Multiples.{shares, turn_both, turn_first}
 
@@ -194,3 +194,22 @@ same_from_multiples p q (negsuc i) (negsuc j) hm hn ea eb ec ed =
     let same = same_numbers (suc i) (suc j) p.a p.b p.c p.d q.a q.b q.c q.d (omega arith) (omega arith) p.coprime q.coprime
         (turn_both i j p.a q.a ea) (turn_both i j p.b q.b eb) (turn_both i j p.c q.c ec) (turn_both i j p.d q.d ed) in
     same_plane p q same.0 same.1 same.2 same.3
+
+-- ---- the walls
+slice_get-take : {X : Type 0} → (n : ℕ) (xs : List X) (k : ℕ) → k < n → slice_get (take n xs) k ≡ slice_get xs k
+slice_get-take zero xs k h = absurd (omega arith)
+slice_get-take (suc n) [] k h = refl
+slice_get-take (suc n) (x ∷ xs) zero h = refl
+slice_get-take (suc n) (x ∷ xs) (suc k) h = slice_get-take n xs k (omega arith)
+
+long_enough : {X : Type 0} → (n : ℕ) (xs : List X) → length (take n xs) ≡ n → n ≤ length xs
+long_enough zero xs e = omega arith
+long_enough (suc n) [] e = absurd (omega arith)
+long_enough (suc n) (x ∷ xs) e = let h = long_enough n xs (omega arith) in omega arith
+
+-- the first six planes of a book are the walls
+pub wall_at : (ps : List Plane) (k : ℕ) → BeginsWithWalls ps → k < 6 → option_map plane_of (slice_get ps k) ≡ slice_get cube_walls k
+wall_at ps k walls h = ap (option_map plane_of) (sym (slice_get-take 6 ps k h)) ∙ sym (slice_get-map plane_of (take 6 ps) k) ∙ ap (λ hs. slice_get hs k) walls
+
+pub walls_given : (ps : List Plane) → BeginsWithWalls ps → 6 ≤ length ps
+walls_given ps walls = long_enough 6 ps (sym (length-map plane_of (take 6 ps)) ∙ ap length walls)

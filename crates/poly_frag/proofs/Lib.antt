@@ -1,4 +1,7 @@
-pub mod Turning
+pub mod Across
 pub mod Kept
-pub mod Starts
 pub mod Pieces
+pub mod Squares
+pub mod Starts
+pub mod Turned
+pub mod Turning

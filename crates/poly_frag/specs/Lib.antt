@@ -3,3 +3,4 @@ pub mod Cubes
 pub mod Cycles
 pub mod Frags
 pub mod Splits
+pub mod Squares

@@ -1,7 +1,9 @@
 //! Convex fragments of planes.
 #![tactic(auto)]
 
+mod axis;
 mod clip;
+mod cube;
 mod meets;
 
 mod cut;
