@@ -1,4 +1,5 @@
 pub mod Across
+pub mod Ahead
 pub mod Kept
 pub mod Pieces
 pub mod Squares

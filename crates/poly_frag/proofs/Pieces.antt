@@ -126,7 +126,7 @@ EdgeOf all cut e = Contains all e ⊎ (e ≡ cut)
 
 each_contained : (es : List Edge) → Each (Contains es) es
 each_contained [] = tt
-each_contained (e ∷ es) = ((0, (omega arith, refl)), each_weaker (Contains es) (Contains (e ∷ es)) (λ x h. Contains-append_right (e ∷ []) es x h) es (each_contained es))
+each_contained (e ∷ es) = ((0, omega arith, refl), each_weaker (Contains es) (Contains (e ∷ es)) (λ x h. Contains-append_right (e ∷ []) es x h) es (each_contained es))
 
 kept_one : (all : List Edge) (cut e : Edge) (b c : Bool) → Contains all e → Each (EdgeOf all cut) (edges_of_one cut e b c)
 kept_one all cut e true true h = (inl h, tt)
