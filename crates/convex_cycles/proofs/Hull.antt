@@ -1,5 +1,5 @@
 -- A convex cycle is the hull of its corners: what holds weakly at all corners holds at all points of the cycle.
-use Rattle.std.proofs.Common.{◌≡◌, ◌⊎◌, inl, inr, List, [], ◌∷◌, ◌+◌, ◌≤◌, ℕ, ℤ, pos, negsuc, neg_ℤ, ◌+ℤ◌, ◌*ℤ◌, ◌<ℤ◌, ◌≤ℤ◌, unsigned_abs, refl, sym, ap, ◌∙◌, subst, arith}
+use Rattle.std.proofs.Common.{◌≡◌, inl, inr, List, [], ◌∷◌, ◌+◌, ◌≤◌, ℕ, ℤ, pos, negsuc, neg_ℤ, ◌+ℤ◌, ◌*ℤ◌, ◌<ℤ◌, ◌≤ℤ◌, unsigned_abs, refl, sym, ap, ◌∙◌, subst, arith}
 use Rattle.std.proofs.lemmas.Int.{ints}
 use Rattle.integer_laws.proofs.Ring.{var, con, neg, ◌⊕◌, ◌⊗◌, ring}
 use Rattle.integer_laws.proofs.Signs.{mul_nonneg}
@@ -9,7 +9,7 @@ use Rattle.spec_space.specs.Points.{IsPoint, value, opposite}
 use Rattle.plane_core.proofs.Cancel.{sign_cases, mul_nonpos}
 use Rattle.convex_cycles.specs.Cycles.{Step}
 use Rattle.convex_cycles.proofs.Lists.{Each, Member, each_member, each_from_members}
-use Rattle.convex_cycles.proofs.Orders.{weaker, below, level, level_below, turned_down, turned_weakly, not_both, sum_positive_second, zero_mix}
+use Rattle.convex_cycles.proofs.Orders.{weaker, below, level, level_below, turned_up, turned_weakly, negative_sign, not_both, sum_positive_second, positive_unless}
 use Rattle.convex_cycles.proofs.Quotes.{valuee}
 use Rattle.convex_cycles.proofs.Reaches.{reach, reach_positive, outdone}
 use Rattle.convex_cycles.proofs.Crossings.{In, Touches, mean, mean-value, mean-IsPoint, mean_zero}
@@ -17,7 +17,7 @@ use Rattle.convex_cycles.proofs.Spares.{IsSpare}
 use Rattle.convex_cycles.proofs.Edges.{IsSpare-edge}
 use Rattle.convex_cycles.proofs.Fronts.{none_in_front}
 use Rattle.convex_cycles.proofs.Links.{IsLinked, sides, each_mapped, edge, prev_member, next_member, at_ends, has_corner}
-use Rattle.convex_cycles.proofs.Inner.{InnerPoint, inner_point}
+use Rattle.convex_cycles.proofs.Inner.{inner_point}
 
 -- ---- closure
 -- a side that leaves out no point strictly inside gs leaves out no point that touches them, if some point is strictly inside
@@ -31,10 +31,11 @@ module _ (s f : Plane) (gs : List Plane) (open_part : (p : Point) → IsPoint p 
 
   beside_within : (x m : Point) → pos 0 ≤ℤ value f m → (hs : List Plane) → Each (Touches x) hs → Each (In m) hs → Each (In (beside x m)) hs
   beside_within x m h [] t i = tt
-  beside_within x m h (g ∷ hs) t i =
-      (subst (λ v. pos 0 <ℤ v) (sym (mean-value (value f m +ℤ pos 1) (pos 1) x m g))
-      (sum_positive_second ((value f m +ℤ pos 1) *ℤ value g x) (pos 1 *ℤ value g m) (mul_nonneg (value f m +ℤ pos 1) (value g x) (weaker (value f m +ℤ pos 1) (above (value f m) h)) t.0) (once (value g m) i.0)),
-      beside_within x m h hs t.1 i.1)
+  beside_within x m h (g ∷ hs) t i = (
+    subst (λ v. pos 0 <ℤ v) (sym (mean-value (value f m +ℤ pos 1) (pos 1) x m g))
+        (sum_positive_second ((value f m +ℤ pos 1) *ℤ value g x) (pos 1 *ℤ value g m) (mul_nonneg (value f m +ℤ pos 1) (value g x) (weaker (value f m +ℤ pos 1) (above (value f m) h)) t.0) (once (value g m) i.0)),
+    beside_within x m h hs t.1 i.1,
+  )
     where
       once : (v : ℤ) → pos 0 <ℤ v → pos 0 <ℤ (pos 1 *ℤ v)
       once v h = omega (arith, ints)
@@ -101,6 +102,12 @@ from_opposite_high h p k = down (value h p) (subst (λ v. pos 0 ≤ℤ v) (value
     down : (x : ℤ) → pos 0 ≤ℤ neg_ℤ x → x ≤ℤ pos 0
     down x h = omega (arith, ints)
 
+pub opposite_front : (h : Plane) (p : Point) → value h p <ℤ pos 0 → In p (opposite h)
+opposite_front h p k = subst (λ v. pos 0 <ℤ v) (sym (value-opposite h p)) (turned_up (value h p) k)
+
+pub from_opposite_front : (h : Plane) (p : Point) → In p (opposite h) → value h p <ℤ pos 0
+from_opposite_front h p k = negative_sign (value h p) (subst (λ v. pos 0 <ℤ v) (value-opposite h p) k)
+
 -- ---- hulls
 module _ (s : Plane) (steps : List Step) (linked : IsLinked s steps) where
   -- where no corner is in front of h, all sides are spare, and no inner point is in front
@@ -153,17 +160,17 @@ module _ (s : Plane) (steps : List Step) (linked : IsLinked s steps) where
   -- strictly inside all sides h is above 0 if it is above 0 at one corner and below 0 at none
   pub strict_hull : (h : Plane) → ((e : Step) → Member e steps → pos 0 ≤ℤ value h e.start) → (c : Step) → Member c steps → pos 0 <ℤ value h c.start
       → (p : Point) → value s p ≡ pos 0 → Each (In p) (sides steps) → pos 0 <ℤ value h p
-  strict_hull h high c c_of front p on within = above_zero (value h p) (weak_hull h high p on within) not_on
+  strict_hull h high c c_of front p on within = positive_unless (value h p) (weak_hull h high p on within) not_on
     where
-      n : ℕ
-      n = reach (λ g. value g c.start) (sides steps)
+      far : ℕ
+      far = reach (λ g. value g c.start) (sides steps)
 
       not_on : value h p ≡ pos 0 → ⊥
       not_on e =
           not_both (value h c.start) front
-          (sunk_corner (pos n) (value h p) (value h c.start) e
-          (subst (λ v. pos 0 ≤ℤ v) (beyond-value n p c.start h)
-          (weak_hull h high (beyond n p c.start) (mean_zero (pos n) (negsuc 0) p c.start s on (edge s steps linked c c_of).start_on) (beyond_within n p c.start (sides steps) (omega arith) within))))
+          (sunk_corner (pos far) (value h p) (value h c.start) e
+          (subst (λ v. pos 0 ≤ℤ v) (beyond-value far p c.start h)
+          (weak_hull h high (beyond far p c.start) (mean_zero (pos far) (negsuc 0) p c.start s on (edge s steps linked c c_of).start_on) (beyond_within far p c.start (sides steps) (omega arith) within))))
         where
           sunk_corner : (n v w : ℤ) → v ≡ pos 0 → pos 0 ≤ℤ (n *ℤ v +ℤ neg_ℤ w) → w ≤ℤ pos 0
           sunk_corner n v w e h = from w (subst (λ x. pos 0 ≤ℤ (n *ℤ x +ℤ neg_ℤ w)) e h)
@@ -171,12 +178,7 @@ module _ (s : Plane) (steps : List Step) (linked : IsLinked s steps) where
               from : (w : ℤ) → pos 0 ≤ℤ (n *ℤ pos 0 +ℤ neg_ℤ w) → w ≤ℤ pos 0
               from w h = omega (arith, ints)
 
-      above_zero : (v : ℤ) → pos 0 ≤ℤ v → (v ≡ pos 0 → ⊥) → pos 0 <ℤ v
-      above_zero v h k = elim (sign_cases v) [
-        | inl low ↦ absurd (under v h low)
-        | inr (inl same) ↦ absurd (k same)
-        | inr (inr high) ↦ high
-      ]
-        where
-          under : (v : ℤ) → pos 0 ≤ℤ v → v <ℤ pos 0 → ⊥
-          under v h k = omega (arith, ints)
+  pub strict_hull_behind : (h : Plane) → ((e : Step) → Member e steps → value h e.start ≤ℤ pos 0) → (c : Step) → Member c steps → value h c.start <ℤ pos 0
+      → (p : Point) → value s p ≡ pos 0 → Each (In p) (sides steps) → value h p <ℤ pos 0
+  strict_hull_behind h low c c_of back p on within =
+      from_opposite_front h p (strict_hull (opposite h) (λ e e_of. opposite_high h e.start (low e e_of)) c c_of (opposite_front h c.start back) p on within)

@@ -1,5 +1,5 @@
 -- A point strictly inside all sides of a convex cycle, near a given corner.
-use Rattle.std.proofs.Common.{◌≡◌, ◌⊎◌, inl, inr, List, [], ◌∷◌, ◌+◌, ◌≤◌, ℕ, ℤ, pos, ◌+ℤ◌, ◌*ℤ◌, ◌<ℤ◌, ◌≤ℤ◌, unsigned_abs, refl, sym, ap, ◌∙◌, subst, arith}
+use Rattle.std.proofs.Common.{◌≡◌, inl, inr, List, [], ◌∷◌, ◌+◌, ℕ, ℤ, pos, ◌+ℤ◌, ◌*ℤ◌, ◌<ℤ◌, ◌≤ℤ◌, unsigned_abs, sym, ap, ◌∙◌, subst, arith}
 use Rattle.std.proofs.lemmas.Int.{ints}
 use Rattle.spec_space.specs.declared.Point.{Point}
 use Rattle.spec_space.specs.declared.Plane.{Plane}
@@ -12,7 +12,7 @@ use Rattle.convex_cycles.proofs.Lists.{Each, Member}
 use Rattle.convex_cycles.proofs.Orders.{weaker, sum_positive, sum_positive_second, sum_nonneg}
 use Rattle.convex_cycles.proofs.Reaches.{positive_number, outdone}
 use Rattle.convex_cycles.proofs.Crossings.{In, Touches, mean, mean-value, mean-IsPoint, mean_zero}
-use Rattle.convex_cycles.proofs.Links.{HasStep, IsLinked, sides, corners, corner_member, each_mapped, edge, far_corner}
+use Rattle.convex_cycles.proofs.Links.{IsLinked, sides, corners, corner_member, each_mapped, edge, far_corner}
 
 -- ---- the middle of some points
 abbrev pub middle : Point → List Point → Point

@@ -22,3 +22,4 @@ pub mod CutSides
 pub mod CutCycles
 pub mod Partition
 pub mod Cuts
+pub mod Cells

@@ -1,13 +1,12 @@
 -- The steps of a convex cycle by membership: what the geometry of a whole cycle needs of a list of steps.
-use Rattle.std.proofs.Common.{◌≡◌, ◌≢◌, ◌⊎◌, inl, inr, List, [], ◌∷◌, map, ℤ, pos, neg_ℤ, ◌<ℤ◌, ◌≤ℤ◌, refl, sym, ap, ◌∙◌, subst, arith}
+use Rattle.std.proofs.Common.{◌≢◌, inl, inr, List, [], ◌∷◌, map, ℤ, pos, ◌<ℤ◌, ◌≤ℤ◌, refl, sym, subst, arith}
 use Rattle.std.proofs.lemmas.Int.{ints}
 use Rattle.spec_space.specs.declared.Point.{Point}
 use Rattle.spec_space.specs.declared.Plane.{Plane}
 use Rattle.spec_space.specs.Points.{value}
 use Rattle.convex_cycles.specs.Cycles.{Step, IsEdgeOf, Follows, turn}
-use Rattle.convex_cycles.proofs.Lists.{Each, Member, each_member, each_from_members, member_map}
-use Rattle.convex_cycles.proofs.Crossings.{In, Touches}
-use Rattle.convex_cycles.proofs.Turns.{turned}
+use Rattle.convex_cycles.proofs.Lists.{Each, Member, each_member, member_map}
+use Rattle.convex_cycles.proofs.Crossings.{In}
 use Rattle.convex_cycles.proofs.Fronts.{HasCorner}
 
 -- a step of the list of which the fact holds

@@ -1,7 +1,8 @@
 -- Order facts on whole numbers, and the signs of sums of two products.
-use Rattle.std.proofs.Common.{◌≡◌, ℤ, pos, neg_ℤ, ◌+ℤ◌, ◌*ℤ◌, ◌-ℤ◌, ◌<ℤ◌, ◌≤ℤ◌, arith}
+use Rattle.std.proofs.Common.{◌≡◌, ℤ, pos, neg_ℤ, ◌+ℤ◌, ◌*ℤ◌, ◌-ℤ◌, ◌<ℤ◌, ◌≤ℤ◌, inl, inr, arith}
 use Rattle.std.proofs.lemmas.Int.{ints}
 use Rattle.integer_laws.proofs.Signs.{mul_positive, mul_nonneg}
+use Rattle.plane_core.proofs.Cancel.{sign_cases}
 
 -- ---- one number and 0
 pub weaker : (x : ℤ) → pos 0 <ℤ x → pos 0 ≤ℤ x
@@ -30,6 +31,20 @@ not_both x h k = omega (arith, ints)
 
 pub not_level : (x : ℤ) → x ≡ pos 0 → pos 0 <ℤ x → ⊥
 not_level x h k = omega (arith, ints)
+
+-- neither below 0 nor 0
+pub positive_unless : (x : ℤ) → pos 0 ≤ℤ x → (x ≡ pos 0 → ⊥) → pos 0 <ℤ x
+positive_unless x h k = elim (sign_cases x) [
+  | inl low ↦ absurd (under x h low)
+  | inr (inl same) ↦ absurd (k same)
+  | inr (inr high) ↦ high
+]
+  where
+    under : (x : ℤ) → pos 0 ≤ℤ x → x <ℤ pos 0 → ⊥
+    under x h k = omega (arith, ints)
+
+pub negative_sign : (x : ℤ) → pos 0 <ℤ neg_ℤ x → x <ℤ pos 0
+negative_sign x h = omega (arith, ints)
 
 -- ---- sums
 pub sum_positive : (x y : ℤ) → pos 0 <ℤ x → pos 0 ≤ℤ y → pos 0 <ℤ (x +ℤ y)

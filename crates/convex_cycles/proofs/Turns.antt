@@ -1,15 +1,15 @@
 -- Where an edge leaves or enters the front of a plane, and that a convex cycle leaves it once and enters it once.
-use Rattle.std.proofs.Common.{◌≡◌, List, [], ◌∷◌, ℤ, pos, neg_ℤ, ◌+ℤ◌, ◌*ℤ◌, ◌-ℤ◌, ◌<ℤ◌, ◌≤ℤ◌, refl, sym, ap, ◌∙◌, subst, arith, inl, inr}
+use Rattle.std.proofs.Common.{◌≡◌, List, [], ◌∷◌, ℤ, pos, neg_ℤ, ◌+ℤ◌, ◌*ℤ◌, ◌-ℤ◌, ◌<ℤ◌, ◌≤ℤ◌, refl, sym, ap, ◌∙◌, subst, arith}
 use Rattle.std.proofs.lemmas.Int.{ints}
 use Rattle.integer_laws.proofs.Ring.{Expr, var, neg, ◌⊕◌, ◌⊗◌, ◌⊖◌, ring, *ℤ_comm}
 use Rattle.integer_laws.proofs.Signs.{mul_positive, mul_nonneg}
 use Rattle.spec_space.specs.declared.Point.{Point}
 use Rattle.spec_space.specs.declared.Plane.{Plane}
 use Rattle.spec_space.specs.Points.{IsPoint, value}
-use Rattle.plane_core.proofs.Cancel.{mul_nonpos, positive_right, zero_right, sign_cases}
+use Rattle.plane_core.proofs.Cancel.{mul_nonpos, positive_right, zero_right}
 use Rattle.convex_cycles.specs.Cycles.{turn, Step, IsEdgeOf}
 use Rattle.convex_cycles.proofs.Quotes.{valuee, turne}
-use Rattle.convex_cycles.proofs.Orders.{weaker, level_below, turned_up, turned_down, turned_weakly, difference_positive, difference_negative, first_of_sum}
+use Rattle.convex_cycles.proofs.Orders.{weaker, level_below, turned_up, turned_down, turned_weakly, difference_positive, difference_negative, first_of_sum, positive_unless}
 use Rattle.convex_cycles.proofs.Crossings.{crossing, crossing-value, crossing-IsPoint, crossing_on, crossing_zero, crossing_nonneg}
 
 -- exchanging two sides turns the sign
@@ -213,16 +213,6 @@ line_clash s k u v a q ha u_turns v_turns sa ka sq kq ua va uq vq =
         apart : (x y : ℤ) → pos 0 <ℤ x → pos 0 <ℤ y → neg_ℤ x ≡ y → ⊥
         apart x y h k e = omega (arith, ints)
 
-not_zero : (x : ℤ) → pos 0 ≤ℤ x → (x ≡ pos 0 → ⊥) → pos 0 <ℤ x
-not_zero x h k = elim (sign_cases x) [
-  | inl n ↦ absurd (low x h n)
-  | inr (inl z) ↦ absurd (k z)
-  | inr (inr p) ↦ p
-]
-  where
-    low : (x : ℤ) → pos 0 ≤ℤ x → x <ℤ pos 0 → ⊥
-    low x h k = omega (arith, ints)
-
 -- the edge u leaves the front of k and v enters it, and q on k is strictly inside both: the corners on k differ
 pub ends_differ : (s k : Plane) (u v : Step) (q : Point) → IsEdgeOf s u → IsEdgeOf s v
     → pos 0 <ℤ value k u.start → value k u.end ≤ℤ pos 0 → value k v.start ≤ℤ pos 0 → pos 0 <ℤ value k v.end
@@ -232,11 +222,11 @@ pub ends_differ : (s k : Plane) (u v : Step) (q : Point) → IsEdgeOf s u → Is
 ends_differ s k u v q iu iv u_front u_back v_back v_front hq sq kq uq vq vus vue uvs uve =
     let u_turns = leaving_edge s k u iu u_front u_back in
     let v_turns = entering_edge s k v iv v_back v_front in (
-      not_zero (value u.side (crossing k v.start v.end)) (crossing_nonneg k u.side v.start v.end v_back v_front uvs uve)
+      positive_unless (value u.side (crossing k v.start v.end)) (crossing_nonneg k u.side v.start v.end v_back v_front uvs uve)
           (λ ub. line_clash s k u.side v.side (crossing k v.start v.end) q (crossing-IsPoint k v.start v.end iv.start_point iv.end_point v_back v_front) u_turns v_turns
           (crossing_zero k s v.start v.end iv.start_on iv.end_on) (crossing_on k v.start v.end) sq kq
           ub (crossing_zero k v.side v.start v.end iv.start_side iv.end_side) uq vq),
-      not_zero (value v.side (crossing k u.end u.start)) (crossing_nonneg k v.side u.end u.start u_back u_front vue vus)
+      positive_unless (value v.side (crossing k u.end u.start)) (crossing_nonneg k v.side u.end u.start u_back u_front vue vus)
           (λ va. line_clash s k u.side v.side (crossing k u.end u.start) q (crossing-IsPoint k u.end u.start iu.end_point iu.start_point u_back u_front) u_turns v_turns
           (crossing_zero k s u.end u.start iu.end_on iu.start_on) (crossing_on k u.end u.start) sq kq
           (crossing_zero k u.side u.end u.start iu.end_side iu.start_side) va uq vq),

@@ -45,19 +45,6 @@ cancel a b c p e = cancel_factor a b c (some a p) e
     some : (a : ℤ) → pos 0 <ℤ a → a ≢ pos 0
     some a p z = omega (arith, ints)
 
-pub negative_right : (a b : ℤ) → pos 0 <ℤ a → (a *ℤ b) <ℤ pos 0 → b <ℤ pos 0
-negative_right a b p q = elim (sign_cases b) [
-  | inl n ↦ n
-  | inr (inl z) ↦ absurd (none (a *ℤ b) (ap (λ x. a *ℤ x) z ∙ mul_zero_right a) q)
-  | inr (inr r) ↦ absurd (clash (a *ℤ b) q (mul_positive a b p r))
-]
-  where
-    clash : (x : ℤ) → x <ℤ pos 0 → pos 0 <ℤ x → ⊥
-    clash x h k = omega (arith, ints)
-
-    none : (x : ℤ) → x ≡ pos 0 → x <ℤ pos 0 → ⊥
-    none x h k = omega (arith, ints)
-
 pub mul_nonpos : (a b : ℤ) → pos 0 ≤ℤ a → b ≤ℤ pos 0 → (a *ℤ b) ≤ℤ pos 0
 mul_nonpos a b p q = elim (sign_cases a) [
   | inl n ↦ absurd (low a n p)
