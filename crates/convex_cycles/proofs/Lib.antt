@@ -23,3 +23,4 @@ pub mod CutCycles
 pub mod Partition
 pub mod Cuts
 pub mod Cells
+pub mod RoundFlags
