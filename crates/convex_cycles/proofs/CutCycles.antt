@@ -1,5 +1,5 @@
 -- A convex cycle that a plane cuts: what is left is a convex cycle.
-use Rattle.std.proofs.Common.{◌≡◌, ◌⊎◌, inl, inr, List, [], ◌∷◌, pos, ◌<ℤ◌, ◌≤ℤ◌, refl}
+use Rattle.std.proofs.Common.{◌≡◌, inl, List, [], ◌∷◌, pos, ◌<ℤ◌, ◌≤ℤ◌, refl}
 use Rattle.spec_space.specs.declared.Point.{Point}
 use Rattle.spec_space.specs.declared.Plane.{Plane}
 use Rattle.spec_space.specs.Points.{IsPoint, value}
@@ -68,7 +68,7 @@ module _ (s : Plane) (steps : List Step) (cycle : CycleFacts s steps) where
       let v_edge = edge_of v m in
       let v_inside = inside_of q inner v m in
       let all = each_from_members (λ e. (IsEdgeOf s e × (pos 0 <ℤ value e.side q)) × OneOrKept e v) steps
-          (λ e n. ((edge_of e n, inside_of q inner e n), member_pair e v steps cycle.pairs n m)) in
+      (λ e n. ((edge_of e n, inside_of q inner e n), member_pair e v steps cycle.pairs n m)) in
       let stands = each_from_members (λ e. IsEdgeOf s e × OneOrKept e v) steps (λ e n. (edge_of e n, member_pair e v steps cycle.pairs n m)) in
       record {
         round = cut_round s k v v_edge nv steps stands cycle.round m;

@@ -1,15 +1,15 @@
 -- The edges that a cut makes of a convex cycle go round again.
-use Rattle.std.proofs.Common.{◌≡◌, ◌⊎◌, inl, inr, Bool, true, false, List, [], ◌∷◌, ◌++◌, pos, ◌<ℤ◌, ◌≤ℤ◌, refl, sym, subst, ap, ◌∙◌}
+use Rattle.std.proofs.Common.{◌≡◌, inl, inr, Bool, true, false, List, [], ◌∷◌, ◌++◌, pos, ◌≤ℤ◌, refl, sym, subst, ap, ◌∙◌}
 use Rattle.spec_space.specs.declared.Point.{Point}
 use Rattle.spec_space.specs.declared.Plane.{Plane}
 use Rattle.spec_space.specs.Points.{value}
 use Rattle.convex_cycles.specs.Sides.{is_in_front}
 use Rattle.convex_cycles.specs.Cycles.{Step, IsEdgeOf, Follows, AreChained, IsRound}
 use Rattle.convex_cycles.proofs.Lists.{Each, Member}
-use Rattle.convex_cycles.proofs.Flags.{Tells, front_tells, front_flag}
+use Rattle.convex_cycles.proofs.Flags.{front_tells, front_flag}
 use Rattle.convex_cycles.proofs.NewEdges.{leaving, entering, along}
-use Rattle.convex_cycles.proofs.Keeping.{Leaves, Enters, OneOrKept, apart, only_entering}
-use Rattle.convex_cycles.proofs.Remains.{parts, parts_of, cut_steps, AreFlags}
+use Rattle.convex_cycles.proofs.Keeping.{Enters, OneOrKept, apart, only_entering}
+use Rattle.convex_cycles.proofs.Remains.{parts, cut_steps, AreFlags}
 
 -- the edge v that enters
 module _ (s k : Plane) (v : Step) (v_edge : IsEdgeOf s v) (v_enters : Enters k v) where

@@ -1,10 +1,10 @@
 -- The sides of the edges after a cut, by the flags of the corners.
-use Rattle.std.proofs.Common.{◌≡◌, Bool, true, false, List, [], ◌∷◌, ◌++◌, map, refl, sym, ap, ◌∙◌}
+use Rattle.std.proofs.Common.{◌≡◌, Bool, true, false, List, [], ◌∷◌, ◌++◌, map, refl, ap, ◌∙◌}
 use Rattle.spec_space.specs.declared.Plane.{Plane}
 use Rattle.convex_cycles.specs.Sides.{is_in_front}
 use Rattle.convex_cycles.specs.Cycles.{Step, AreChained, IsRound}
 use Rattle.convex_cycles.proofs.Links.{sides}
-use Rattle.convex_cycles.proofs.Remains.{parts, parts_of, cut_steps}
+use Rattle.convex_cycles.proofs.Remains.{parts, cut_steps}
 
 -- the sides that one side gives, where the corners at its start and its end are kept or not
 abbrev pub sides_of_one : Plane → Plane → Bool → Bool → List Plane

@@ -1,5 +1,5 @@
 -- What a plane makes of a convex cycle: the cycle in front of it and its points, or that the cycle lies on one side.
-use Rattle.std.proofs.Common.{◌≡◌, ◌⊎◌, inl, inr, Bool, true, false, List, [], ◌∷◌, map, ℤ, pos, neg_ℤ, ◌<ℤ◌, ◌≤ℤ◌, refl, sym, subst, ◌∙◌, ap, arith}
+use Rattle.std.proofs.Common.{◌≡◌, ◌⊎◌, inl, inr, Bool, true, false, List, [], ◌∷◌, ℤ, pos, neg_ℤ, ◌<ℤ◌, ◌≤ℤ◌, sym, subst, arith}
 use Rattle.std.specs.Prelude.{◌↔◌}
 use Rattle.std.proofs.lemmas.Int.{ints}
 use Rattle.spec_space.specs.declared.Point.{Point}
@@ -8,19 +8,18 @@ use Rattle.spec_space.specs.Points.{IsPoint, value, opposite}
 use Rattle.plane_core.proofs.Cancel.{sign_cases}
 use Rattle.convex_cycles.specs.Sides.{is_in_front, IsWithin, IsTouching}
 use Rattle.convex_cycles.specs.Cycles.{Step, AreConvex}
-use Rattle.convex_cycles.proofs.Lists.{Each, Member, each_member, each_from_members, each_from_all, all_from_each, each_joined}
+use Rattle.convex_cycles.proofs.Lists.{Each, Member, each_from_members, each_from_all, all_from_each, each_joined}
 use Rattle.convex_cycles.proofs.Orders.{weaker, below, level, level_below, not_both}
 use Rattle.convex_cycles.proofs.Flags.{front_tells}
 use Rattle.convex_cycles.proofs.Crossings.{In, Touches, crossing, crossing-IsPoint, crossing_on, crossing_zero, crossing_positive}
 use Rattle.convex_cycles.proofs.NewEdges.{along}
-use Rattle.convex_cycles.proofs.Links.{IsLinked, sides, edge}
+use Rattle.convex_cycles.proofs.Links.{sides}
 use Rattle.convex_cycles.proofs.Inner.{InnerPoint, inner_near}
 use Rattle.convex_cycles.proofs.Hull.{value-opposite, opposite_low, opposite_high, strict_hull, closed_hull, weak_hull_behind, closed_hull_behind}
 use Rattle.convex_cycles.proofs.Rounds.{Begins, changes, some_or_none}
-use Rattle.convex_cycles.proofs.Keeping.{Leaves, Enters}
 use Rattle.convex_cycles.proofs.Remains.{parts, parts_of, cut_steps, AreFlags}
 use Rattle.convex_cycles.proofs.CutSides.{kept_sides, round_flags, cut_sides}
-use Rattle.convex_cycles.proofs.CutCycles.{CycleFacts, to_cycle, from_cycle, IsInner, linked, cut-facts}
+use Rattle.convex_cycles.proofs.CutCycles.{to_cycle, from_cycle, IsInner, linked, cut-facts}
 use Rattle.convex_cycles.proofs.Partition.{cut_each, holds_along, inside_cut, touching_cut}
 
 -- in the plane s, and strictly inside each side
@@ -138,10 +137,11 @@ pub inner_on_cut : (s k : Plane) (steps : List Step) → AreConvex s steps → B
 inner_on_cut s k steps convex high low =
     let links = linked s steps (to_cycle s steps convex) in
     let m = inner_near s k steps links high.0 high.1 high.2 in
-    let p = inner_near s (opposite k) steps links low.0 low.1 (opposite_front k low.0.start low.2) in
-    (crossing k p.point m.point,
-    inner_between s k steps p.point m.point (record { is_point = p.is_point; on = p.on; within = p.within }) (record { is_point = m.is_point; on = m.on; within = m.within }) (from_opposite k p.point p.front) m.front,
-    crossing_on k p.point m.point)
+    let p = inner_near s (opposite k) steps links low.0 low.1 (opposite_front k low.0.start low.2) in (
+      crossing k p.point m.point,
+      inner_between s k steps p.point m.point (record { is_point = p.is_point; on = p.on; within = p.within }) (record { is_point = m.is_point; on = m.on; within = m.within }) (from_opposite k p.point p.front) m.front,
+      crossing_on k p.point m.point,
+    )
 
 -- ---- a cut with corners on both its sides
 strictly : (p : Point) (hs : List Plane) → IsWithin hs p → Each (In p) hs

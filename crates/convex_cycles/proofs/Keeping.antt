@@ -1,11 +1,11 @@
 -- What it means for two edges of a convex cycle to keep each other: corners lie inside sides, and of two edges no two leave
 -- the front of a plane, nor enter it.
-use Rattle.std.proofs.Common.{◌≡◌, ◌⊎◌, inl, inr, List, ℤ, pos, ◌<ℤ◌, ◌≤ℤ◌, refl, sym, ap, subst}
+use Rattle.std.proofs.Common.{◌≡◌, ◌⊎◌, inl, inr, List, pos, ◌<ℤ◌, ◌≤ℤ◌, subst}
 use Rattle.spec_space.specs.declared.Point.{Point}
 use Rattle.spec_space.specs.declared.Plane.{Plane}
 use Rattle.spec_space.specs.Points.{value}
 use Rattle.convex_cycles.specs.Cycles.{Step, IsEdgeOf, Keeps, KeepEachOther}
-use Rattle.convex_cycles.proofs.Lists.{Each, EachPair, Member, pair_member}
+use Rattle.convex_cycles.proofs.Lists.{EachPair, Member, pair_member}
 use Rattle.convex_cycles.proofs.Orders.{weaker, level, not_both, not_level}
 use Rattle.convex_cycles.proofs.Turns.{one_leaving, one_entering}
 

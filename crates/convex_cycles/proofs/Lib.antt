@@ -20,6 +20,7 @@ pub mod Parts
 pub mod Quotes
 pub mod Reaches
 pub mod Remains
+pub mod RoundFlags
 pub mod Rounds
 pub mod Segments
 pub mod Spares

@@ -1,5 +1,5 @@
 -- Lists in proofs: facts of each item and of each pair, by recursion, and members.
-use Rattle.std.proofs.Common.{◌≡◌, ◌⊎◌, inl, inr, List, [], ◌∷◌, ◌++◌, map, ℕ, zero, suc, ◌<◌, length, All, refl, sym, subst, arith}
+use Rattle.std.proofs.Common.{◌≡◌, ◌⊎◌, inl, inr, List, [], ◌∷◌, ◌++◌, map, suc, All, refl, sym, subst, arith}
 use Rattle.std.specs.List.{AllPairs}
 use Rattle.std.proofs.lemmas.List.Elements.{All-nil, All-cons, All-head, All-tail}
 use Rattle.std.proofs.lemmas.List.Kept.{AllPairs-cons}
@@ -113,9 +113,10 @@ pair_append R (x ∷ xs) ys p c q = (each_append (R x) xs ys p.0 c.0, pair_appen
 
 across_joined : {X Y : Type 0} (R : Y → Y → Type 0) (ys : List Y) (f : X → List Y) (xs : List X) → Each (λ x. Across R ys (f x)) xs → Across R ys (joined f xs)
 across_joined R [] f xs e = tt
-across_joined R (y ∷ ys) f xs e =
-    (each_joined (R y) f xs (each_weaker (λ x. Across R (y ∷ ys) (f x)) (λ x. Each (R y) (f x)) (λ x h. h.0) xs e),
-    across_joined R ys f xs (each_weaker (λ x. Across R (y ∷ ys) (f x)) (λ x. Across R ys (f x)) (λ x h. h.1) xs e))
+across_joined R (y ∷ ys) f xs e = (
+  each_joined (R y) f xs (each_weaker (λ x. Across R (y ∷ ys) (f x)) (λ x. Each (R y) (f x)) (λ x h. h.0) xs e),
+  across_joined R ys f xs (each_weaker (λ x. Across R (y ∷ ys) (f x)) (λ x. Across R ys (f x)) (λ x h. h.1) xs e),
+)
 
 pub pair_joined : {X Y : Type 0} (R : Y → Y → Type 0) (f : X → List Y) (xs : List X) → Each (λ x. EachPair R (f x)) xs → EachPair (λ x y. Across R (f x) (f y)) xs → EachPair R (joined f xs)
 pair_joined R f [] e p = tt

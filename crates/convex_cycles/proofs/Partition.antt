@@ -1,5 +1,5 @@
 -- The points that a cut leaves of a convex cycle.
-use Rattle.std.proofs.Common.{◌≡◌, ◌⊎◌, inl, inr, Bool, true, false, List, [], ◌∷◌, map, pos, ◌<ℤ◌, ◌≤ℤ◌, refl, sym, subst}
+use Rattle.std.proofs.Common.{◌≡◌, ◌⊎◌, inl, inr, Bool, true, false, List, [], ◌∷◌, pos, ◌≤ℤ◌, refl, sym, subst}
 use Rattle.spec_space.specs.declared.Point.{Point}
 use Rattle.spec_space.specs.declared.Plane.{Plane}
 use Rattle.spec_space.specs.Points.{IsPoint, value}
@@ -7,8 +7,8 @@ use Rattle.convex_cycles.specs.Sides.{is_in_front}
 use Rattle.convex_cycles.specs.Cycles.{Step}
 use Rattle.convex_cycles.proofs.Lists.{Each, Member, joined, each_member, each_from_members, each_map, each_joined, member_joined}
 use Rattle.convex_cycles.proofs.Orders.{not_both}
-use Rattle.convex_cycles.proofs.Flags.{Tells, front_tells}
-use Rattle.convex_cycles.proofs.Crossings.{In, Touches, crossing}
+use Rattle.convex_cycles.proofs.Flags.{front_tells}
+use Rattle.convex_cycles.proofs.Crossings.{In, Touches}
 use Rattle.convex_cycles.proofs.NewEdges.{leaving, entering, along}
 use Rattle.convex_cycles.proofs.Spares.{IsSpare, spare_sides}
 use Rattle.convex_cycles.proofs.Edges.{IsSpare-edge}
@@ -93,8 +93,8 @@ module _ (s k : Plane) (steps : List Step) (linked : IsLinked s steps) (v : Step
   pub inside_before : (p : Point) → value s p ≡ pos 0 → In p k → Each (In p) (sides (cut_steps k v steps)) → Each (In p) (sides steps)
   inside_before p on front within =
       let spare : Each (In p) (spares k steps) = spare_sides s k (sides (cut_steps k v steps)) (spares k steps) p m.point spares_spare
-          m.on m.front (cut_each (In m.point) k v steps m.front m.within) (spares_each (In m.point) k steps (λ e e_of start_out end_out. each_member (In m.point) e.side (sides steps) (side_member e steps e_of) m.within))
-          on front within in
+      m.on m.front (cut_each (In m.point) k v steps m.front m.within) (spares_each (In m.point) k steps (λ e e_of start_out end_out. each_member (In m.point) e.side (sides steps) (side_member e steps e_of) m.within))
+      on front within in
       each_from_members (In p) (sides steps) (λ f f_of. elim (side_case f f_of) [
         | inl left ↦ each_member (In p) f (sides (cut_steps k v steps)) left within
         | inr gone ↦ each_member (In p) f (spares k steps) gone spare

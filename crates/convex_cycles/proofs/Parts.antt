@@ -1,5 +1,5 @@
 -- The edges that a cut makes of a convex cycle: each is an edge of a convex cycle, and they keep each other.
-use Rattle.std.proofs.Common.{◌≡◌, ◌⊎◌, inl, inr, Bool, true, false, List, [], ◌∷◌, pos, ◌<ℤ◌, ◌≤ℤ◌, refl, ap}
+use Rattle.std.proofs.Common.{◌≡◌, inl, inr, Bool, true, false, List, pos, refl, ap}
 use Rattle.spec_space.specs.declared.Point.{Point}
 use Rattle.spec_space.specs.declared.Plane.{Plane}
 use Rattle.spec_space.specs.Points.{IsPoint, value}
@@ -7,7 +7,7 @@ use Rattle.convex_cycles.specs.Sides.{is_in_front}
 use Rattle.convex_cycles.specs.Cycles.{Step, IsEdgeOf, KeepEachOther}
 use Rattle.convex_cycles.proofs.Lists.{Each, EachPair, Across, each_weaker, each_joined, pair_with, pair_joined}
 use Rattle.convex_cycles.proofs.Flags.{front_tells}
-use Rattle.convex_cycles.proofs.NewEdges.{leaving, entering, along, leaving-IsEdgeOf, entering-IsEdgeOf, along-IsEdgeOf}
+use Rattle.convex_cycles.proofs.NewEdges.{leaving, along, leaving-IsEdgeOf, entering-IsEdgeOf, along-IsEdgeOf}
 use Rattle.convex_cycles.proofs.Keeping.{Leaves, Enters, OneOrKept, apart, turned, not_two_leaving, not_two_entering}
 use Rattle.convex_cycles.proofs.Remains.{parts, parts_of, cut_steps, AreFlags, KeepsSome, HasInside, remaining, remaining_keep, along_keep, crossings_inside}
 

@@ -1,17 +1,17 @@
 -- What a cut leaves of one edge, and that what is left of two edges keeps each other.
-use Rattle.std.proofs.Common.{◌≡◌, ◌⊎◌, inl, inr, Bool, true, false, List, [], ◌∷◌, ℤ, pos, ◌<ℤ◌, ◌≤ℤ◌, refl, sym, ap, subst}
+use Rattle.std.proofs.Common.{◌≡◌, ◌⊎◌, inl, inr, Bool, true, false, List, [], ◌∷◌, pos, ◌<ℤ◌, ◌≤ℤ◌, sym, ap, subst}
 use Rattle.spec_space.specs.declared.Point.{Point}
 use Rattle.spec_space.specs.declared.Plane.{Plane}
 use Rattle.spec_space.specs.Points.{IsPoint, value}
 use Rattle.convex_cycles.specs.Sides.{is_in_front}
-use Rattle.convex_cycles.specs.Cycles.{Step, IsEdgeOf, Keeps, KeepEachOther}
-use Rattle.convex_cycles.proofs.Lists.{Each, EachPair, Across, joined}
+use Rattle.convex_cycles.specs.Cycles.{Step, IsEdgeOf, KeepEachOther}
+use Rattle.convex_cycles.proofs.Lists.{joined}
 use Rattle.convex_cycles.proofs.Orders.{not_both}
 use Rattle.convex_cycles.proofs.Flags.{Tells}
 use Rattle.convex_cycles.proofs.Crossings.{crossing, crossing_positive}
 use Rattle.convex_cycles.proofs.Turns.{ends_differ}
-use Rattle.convex_cycles.proofs.NewEdges.{leaving, entering, along, leaving-IsEdgeOf, entering-IsEdgeOf, along-IsEdgeOf}
-use Rattle.convex_cycles.proofs.Keeping.{Leaves, Enters, OneOrKept, apart, turned, keeps_start, keeps_end, touches_start, touches_end, only_leaving, only_entering, not_two_leaving, not_two_entering}
+use Rattle.convex_cycles.proofs.NewEdges.{leaving, entering, along}
+use Rattle.convex_cycles.proofs.Keeping.{Leaves, Enters, OneOrKept, apart, turned, keeps_start, keeps_end, only_leaving, only_entering}
 
 -- where an edge begins and ends after the cut, if its corner there is kept or not
 abbrev pub start_left : Plane → Step → Bool → Point

@@ -1,12 +1,8 @@
 -- Walks round a cycle: the edge before and the edge after, and where a cycle changes from one kind of corner to another.
-use Rattle.std.proofs.Common.{◌≡◌, ◌⊎◌, inl, inr, List, [], ◌∷◌, pos, ◌<ℤ◌, ◌≤ℤ◌, refl, sym, subst, ap}
+use Rattle.std.proofs.Common.{◌≡◌, ◌⊎◌, inl, inr, List, [], ◌∷◌, refl, sym, subst}
 use Rattle.spec_space.specs.declared.Point.{Point}
-use Rattle.spec_space.specs.declared.Plane.{Plane}
-use Rattle.spec_space.specs.Points.{value}
 use Rattle.convex_cycles.specs.Cycles.{Step, Follows, AreChained, IsRound}
-use Rattle.convex_cycles.proofs.Lists.{Each, Member, each_from_members}
-use Rattle.convex_cycles.proofs.Orders.{not_both}
-use Rattle.convex_cycles.proofs.Keeping.{Leaves, Enters}
+use Rattle.convex_cycles.proofs.Lists.{Member}
 
 -- ---- the edge before and the edge after
 abbrev pub HasBefore : List Step → Step → Type 0

@@ -1,5 +1,5 @@
 -- Sides: planes of which the front is kept.
-use Rattle.std.specs.Prelude.{◌≡◌, Bool, ℤ, pos, ◌<ℤ◌, ◌≤ℤ◌, int_lt, List, All}
+use Rattle.std.specs.Prelude.{Bool, pos, ◌<ℤ◌, ◌≤ℤ◌, int_lt, List, All}
 use Rattle.spec_space.specs.declared.Point.{Point}
 use Rattle.spec_space.specs.declared.Plane.{Plane}
 use Rattle.spec_space.specs.Points.{value}
