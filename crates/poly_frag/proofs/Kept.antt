@@ -1,15 +1,18 @@
 -- Whether a side is kept, by the sign of its plane.
-use Rattle.std.proofs.Common.{◌≡◌, ℕ, zero, suc, Bool, true, false, List, [], ◌∷◌, ℤ, pos, negsuc, neg_ℤ, ◌<ℤ◌, int_lt, not, map, refl, sym, ap, ◌∙◌, arith}
+use Rattle.std.proofs.Common.{◌≡◌, ℕ, zero, suc, Bool, true, false, List, [], ◌∷◌, ℤ, pos, negsuc, neg_ℤ, ◌<ℤ◌, int_lt, not, map, slice_get, Some, refl, sym, ap, ◌∙◌, arith}
 use Rattle.std.proofs.lemmas.Int.{ints}
 use Rattle.integer_laws.proofs.Ring.{var, neg, ◌⊕◌, ◌⊗◌, ◌⊖◌, ring}
 use Rattle.spec_space.specs.declared.Point.{Point}
 use Rattle.spec_space.specs.declared.Plane.{Plane}
 use Rattle.spec_space.specs.Points.{value, opposite}
 use Rattle.plane_core.specs.Planes.{sign_of}
-use Rattle.plane_core.specs.Views.{point_of}
+use Rattle.plane_core.specs.Views.{plane_of, point_of}
+use Rattle.plane_core.specs.declared.numbers.Plane.{Plane as BookPlane}
+use Rattle.plane_core.specs.declared.book.PlaneId.{PlaneId}
 use Rattle.plane_core.specs.declared.numbers.Corner.{Corner}
 use Rattle.plane_core.specs.declared.points.Sign.TheVariants.{Front, On, Back}
-use Rattle.poly_frag.specs.Frags.{kept_side}
+use Rattle.poly_frag.specs.Frags.{numbered, plane_at, kept_side}
+use Rattle.poly_frag.specs.Clips.{closed_round}
 use Rattle.convex_cycles.specs.Sides.{is_in_front}
 
 pub value_opposite : (h : Plane) (p : Point) → value (opposite h) p ≡ neg_ℤ (value h p)
@@ -59,3 +62,8 @@ kept_behind false h p e = sym (behind_test h p ∙ (back_number (value h p) e).1
 
 abbrev pub flags_of : Plane → List Corner → List Bool
 flags_of h cs = map (λ c. is_in_front h (point_of c)) cs
+
+-- the flags at a plane are those at an edge's side, where the plane has the edge's number
+pub flags_at : (planes : List BookPlane) (id : PlaneId) (keep : Bool) (p : BookPlane) (flags : List Bool) (cs : List Corner) → slice_get planes id.k ≡ Some p
+    → flags ≡ closed_round (flags_of (kept_side keep (plane_of p)) cs) → flags ≡ closed_round (flags_of (kept_side keep (plane_at planes id)) cs)
+flags_at planes id keep p flags cs given same = same ∙ ap (λ o. closed_round (flags_of (kept_side keep (numbered o)) cs)) (sym given)

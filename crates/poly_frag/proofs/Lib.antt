@@ -6,3 +6,4 @@ pub mod Squares
 pub mod Starts
 pub mod Turned
 pub mod Turning
+pub mod Wholes

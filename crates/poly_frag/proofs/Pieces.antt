@@ -1,7 +1,8 @@
 -- The piece that a cut leaves of a fragment is a fragment, with the points on the side that is kept.
-use Rattle.std.proofs.Common.{◌≡◌, ◌⊎◌, inl, inr, ◌<◌, Bool, true, false, List, [], ◌∷◌, ◌++◌, map, length, slice_get, ℕ, ℤ, pos, negsuc, neg_ℤ, ◌+ℤ◌, ◌-ℤ◌, ◌*ℤ◌, ◌<ℤ◌, ◌≤ℤ◌, All, Contains, refl, sym, ap, ◌∙◌, subst, arith}
+use Rattle.std.proofs.Common.{◌≡◌, ◌⊎◌, inl, inr, ◌+◌, ◌<◌, Bool, true, false, List, [], ◌∷◌, ◌++◌, map, length, length-append, slice_get, ℕ, ℤ, pos, negsuc, neg_ℤ, ◌+ℤ◌, ◌-ℤ◌, ◌*ℤ◌, ◌<ℤ◌, ◌≤ℤ◌, All, Contains, refl, sym, ap, ◌∙◌, subst, arith}
 use Rattle.std.specs.Prelude.{◌↔◌}
 use Rattle.std.proofs.lemmas.Int.{ints}
+use Rattle.std.proofs.lemmas.List.{length-map}
 use Rattle.std.proofs.lemmas.List.Elements.{Contains-append_right}
 use Rattle.spec_space.specs.declared.Point.{Point}
 use Rattle.spec_space.specs.declared.Plane.{Plane}
@@ -11,7 +12,7 @@ use Rattle.plane_core.specs.declared.numbers.Corner.{Corner}
 use Rattle.plane_core.specs.declared.book.PlaneId.{PlaneId}
 use Rattle.plane_core.specs.Books.{x_plane, y_plane, z_plane}
 use Rattle.convex_cycles.specs.Sides.{is_in_front, IsWithin, IsTouching}
-use Rattle.convex_cycles.specs.Cycles.{Step, IsEdgeOf, AreConvex}
+use Rattle.convex_cycles.specs.Cycles.{Step, IsEdgeOf, IsRound, AreConvex}
 use Rattle.convex_cycles.proofs.Lists.{Each, Member, each_member, each_from_all, all_from_each, each_from_members, each_weaker, each_append}
 use Rattle.convex_cycles.proofs.Crossings.{Touches}
 use Rattle.convex_cycles.proofs.Links.{IsLinked, sides, edge}
@@ -53,6 +54,19 @@ pub flags_alike : (planes : List BookPlane) (f : Frag) (cycle : IsCycle planes f
 flags_alike planes f cycle cs k at =
     ap closed_round (flags_match k (support_of planes f) cs cycle.steps (starts_of planes f cycle cs at) (each_from_all (IsEdgeOf (support_of planes f)) cycle.steps cycle.convex.edges))
     ∙ round_alike k cycle.steps
+
+-- so many flags as edges, and one more
+length_closed : (b : Bool) (bs : List Bool) → length (closed_round (b ∷ bs)) ≡ length (b ∷ bs) + 1
+length_closed b bs = length-append (b ∷ bs) (b ∷ [])
+
+round_length : (k : Plane) (steps : List Step) → IsRound steps → length (round_flags k steps) ≡ length steps + 1
+round_length k [] round = absurd round
+round_length k (e ∷ es) round = length_closed (start_flag k e) (map (start_flag k) es) ∙ ap (λ n. n + 1) (length-map (e ∷ es) (start_flag k))
+
+pub flags_length : (planes : List BookPlane) (f : Frag) (cycle : IsCycle planes f) (cs : List Corner) (k : Plane) → AreCorners planes f cs → length (closed_round (flags_of k cs)) ≡ length f.edges.items + 1
+flags_length planes f cycle cs k at =
+    ap length (flags_alike planes f cycle cs k at) ∙ round_length k cycle.steps cycle.convex.round
+    ∙ ap (λ n. n + 1) (sym (length-map cycle.steps (λ e. e.side)) ∙ sym (ap length cycle.sides) ∙ length-map f.edges.items (side_of planes))
 
 -- ---- the closed cube
 module _ (p : Point) where
@@ -100,7 +114,7 @@ hull_in_cube s steps links all x x_point x_on x_in =
     (closed_hull s steps links (opposite (z_plane (pos 1048577))) (λ e m. cube_z_high e.start (at e m)) x x_point x_on x_in)
 
 -- the start of a step touches all sides
-start_touches : (s : Plane) (steps : List Step) → (links : IsLinked s steps) → (e : Step) → Member e steps → Each (Touches e.start) (sides steps)
+pub start_touches : (s : Plane) (steps : List Step) → (links : IsLinked s steps) → (e : Step) → Member e steps → Each (Touches e.start) (sides steps)
 start_touches s steps links e m = mapped steps (λ f n. links.inside f e n m)
   where
     mapped : (fs : List Step) → ((f : Step) → Member f fs → Touches e.start f.side) → Each (Touches e.start) (sides fs)
@@ -109,7 +123,7 @@ start_touches s steps links e m = mapped steps (λ f n. links.inside f e n m)
 
 -- ---- fragments with the sides of steps
 -- the parts of a cycle of f are those of g, where g has the sides of what lies of f in front of h
-part_from : (planes : List BookPlane) (g f : Frag) (h : Plane) (hs ks : List Plane) → g.support ≡ f.support → sides_of planes g ≡ hs → sides_of planes f ≡ ks
+pub part_from : (planes : List BookPlane) (g f : Frag) (h : Plane) (hs ks : List Plane) → g.support ≡ f.support → sides_of planes g ≡ hs → sides_of planes f ≡ ks
     → IsFrontOf (support_of planes f) h hs ks → IsPartOf planes g f h
 part_from planes g f h hs ks support gs fs front = record {
   inside = λ p is. subst (λ s. (value s p ≡ pos 0) × IsWithin (sides_of planes g) p ↔ IsInside planes f p × (pos 0 <ℤ value h p)) (ap (plane_at planes) (sym support))

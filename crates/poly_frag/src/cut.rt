@@ -28,9 +28,10 @@ pub fn split(alloc: Global, book: &PlaneBook, f: &Frag, by: PlaneId) -> Result<S
         plane: by,
         keep_front: false,
     };
+    let plane = book.plane(by);
     let corners = corners(alloc, book, f)?;
-    let in_front = kept_corners(alloc, book, front, corners.as_slice())?;
-    let behind = kept_corners(alloc, book, back, corners.as_slice())?;
+    let in_front = kept_corners(alloc, plane, true, &corners)?;
+    let behind = kept_corners(alloc, plane, false, &corners)?;
     if !keeps_any(&behind) {
         return Ok(Split::Front(f.copy(alloc)?));
     }

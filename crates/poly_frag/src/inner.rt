@@ -1,6 +1,5 @@
-ghost use Rattle.std.specs.Prelude.{◌≡◌, ◌↔◌, ◌<◌, ◌≤ℤ◌, pos, length, IfOk, IfSome, IfNone};
-ghost use Rattle.spec_space.specs.Points.{value};
-ghost use Rattle.poly_frag.specs.Frags.{side_of, AreEdgesOf};
+ghost use Rattle.std.specs.Prelude.{◌<◌, length, IfOk, IfSome, IfNone};
+ghost use Rattle.poly_frag.specs.Frags.{side_of};
 ghost use Rattle.poly_frag.specs.Cycles.{IsCycle};
 ghost use Rattle.poly_frag.specs.Inners.{IsInnerPart, LiesBehind};
 
@@ -11,24 +10,21 @@ use plane_core::PlaneBook;
 use std::alloc::{AllocError, Global};
 
 /// What a wall keeps of a cycle, its plane included: `None` where some of the cycle lies behind the wall and none in front.
-pub(crate) fn inner_part(alloc: Global, book: &PlaneBook, f: Frag, wall: Edge) -> Result<Option<Frag>, AllocError>
-    requires cycle { IsCycle book.now f }
+pub(crate) fn inner_part(alloc: Global, book: &PlaneBook, f: &Frag, wall: Edge) -> Result<Option<Frag>, AllocError>
+    requires cycle { IsCycle book.now f.now }
     requires given { wall.plane.k < length book.now }
-    ensures part { IfOk result (λ o. IfSome o (λ g. IsInnerPart book.now g f wall)) }
-    ensures none { IfOk result (λ o. IfNone o (LiesBehind book.now f (side_of book.now wall))) }
+    ensures part { IfOk result (λ o. IfSome o (λ g. IsInnerPart book.now g f.now wall)) }
+    ensures none { IfOk result (λ o. IfNone o (LiesBehind book.now f.now (side_of book.now wall))) }
 {
-    let behind = Edge {
-        plane: wall.plane,
-        keep_front: !wall.keep_front,
-    };
-    let corners = corners(alloc, book, &f)?;
-    let out = kept_corners(alloc, book, behind, corners.as_slice())?;
+    let plane = book.plane(wall.plane);
+    let corners = corners(alloc, book, f)?;
+    let out = kept_corners(alloc, plane, !wall.keep_front, &corners)?;
     if !keeps_any(&out) {
-        return Ok(Some(f));
+        return Ok(Some(f.copy(alloc)?));
     }
-    let kept = kept_corners(alloc, book, wall, corners.as_slice())?;
+    let kept = kept_corners(alloc, plane, wall.keep_front, &corners)?;
     if !keeps_any(&kept) {
         return Ok(None);
     }
-    Ok(Some(part(alloc, &f, wall, &kept)?))
+    Ok(Some(part(alloc, f, wall, &kept)?))
 }

@@ -1,12 +1,12 @@
-ghost use Rattle.std.specs.Prelude.{◌≡◌, ◌<◌, IfOk, map, length};
-ghost use Rattle.plane_core.specs.Views.{point_of};
-ghost use Rattle.poly_frag.specs.Frags.{side_of};
+ghost use Rattle.std.specs.Prelude.{◌≡◌, IfOk, map};
+ghost use Rattle.plane_core.specs.Views.{plane_of, point_of};
+ghost use Rattle.poly_frag.specs.Frags.{kept_side};
 ghost use Rattle.convex_cycles.specs.Sides.{is_in_front};
 ghost use Rattle.poly_frag.specs.Clips.{closed_round};
 ghost use Rattle.poly_frag.specs.Cycles.{IsCycle, AreCorners};
 
-use crate::frag::{Edge, Frag};
-use plane_core::{Corner, PlaneBook, Sign, meet, side};
+use crate::frag::Frag;
+use plane_core::{Corner, Plane, PlaneBook, Sign, meet, side};
 use std::alloc::{AllocError, Global};
 
 /// The corners of a fragment in the order of the cycle, reduced, one for each edge: where its plane meets the edge before
@@ -29,34 +29,32 @@ pub fn corners(alloc: Global, book: &PlaneBook, f: &Frag) -> Result<Vec<Corner>,
     Ok(corners)
 }
 
-/// Whether the edge keeps the corner strictly.
-fn keeps(book: &PlaneBook, edge: Edge, corner: &Corner) -> bool
-    requires given { edge.plane.k < length book.now }
-    ensures kept { result ≡ is_in_front (side_of book.now edge) (point_of corner.now) }
+/// Whether the corner lies strictly on one side of the plane.
+fn keeps(plane: &Plane, keep_front: bool, corner: &Corner) -> bool
+    ensures kept { result ≡ is_in_front (kept_side keep_front (plane_of plane.now)) (point_of corner.now) }
 {
-    match side(book.plane(edge.plane), corner) {
-        Sign::Front => edge.keep_front,
+    match side(plane, corner) {
+        Sign::Front => keep_front,
         Sign::On => false,
-        Sign::Back => !edge.keep_front,
+        Sign::Back => !keep_front,
     }
 }
 
-/// Whether the edge keeps each corner strictly, the first corner once more at the end.
+/// Whether each corner lies strictly on one side of the plane, the first corner once more at the end.
 pub(crate) fn kept_corners(
     alloc: Global,
-    book: &PlaneBook,
-    edge: Edge,
+    plane: &Plane,
+    keep_front: bool,
     corners: &[Corner],
 ) -> Result<Vec<bool>, AllocError>
-    requires given { edge.plane.k < length book.now }
-    ensures kept { IfOk result (λ kept. kept.items ≡ closed_round (map (λ c. is_in_front (side_of book.now edge) (point_of c)) corners.now)) }
+    ensures kept { IfOk result (λ kept. kept.items ≡ closed_round (map (λ c. is_in_front (kept_side keep_front (plane_of plane.now)) (point_of c)) corners.now)) }
 {
     let mut kept = Vec::new(alloc);
     for corner in corners {
-        kept.push(keeps(book, edge, corner))?;
+        kept.push(keeps(plane, keep_front, corner))?;
     }
     if let Some(corner) = corners.first() {
-        kept.push(keeps(book, edge, corner))?;
+        kept.push(keeps(plane, keep_front, corner))?;
     }
     Ok(kept)
 }
