@@ -2,6 +2,7 @@ pub mod Across
 pub mod Ahead
 pub mod Kept
 pub mod Pieces
+pub mod Splitting
 pub mod Squares
 pub mod Starts
 pub mod Turned

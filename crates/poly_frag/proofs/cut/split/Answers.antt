@@ -1,6 +1,4 @@
-use Rattle.std.proofs.Common.{refl}
-use Rattle.poly_frag.proofs.Starts.{flags_match}
-use Rattle.poly_frag.proofs.Pieces.{piece, part_in_cube}
+use Rattle.poly_frag.proofs.Splitting.{not_all_on}
 use Rattle.poly_frag.proofs.cut.split.Goals as goal
 
 pub part-requires : goal.part-requires
@@ -9,17 +7,11 @@ part-requires c = ?
 pub part-requires-2 : goal.part-requires-2
 part-requires-2 c = ?
 
-pub returns-then-not-contains-clause-fragments : goal.returns-then-not-contains-clause-fragments
-returns-then-not-contains-clause-fragments c = ?
+pub returns-then-not-keeps_any : goal.returns-then-not-keeps_any
+returns-then-not-keeps_any c = ?
 
-pub returns-then-not-contains-clause-points : goal.returns-then-not-contains-clause-points
-returns-then-not-contains-clause-points c = ?
-
-pub returns-then-not-contains-2-clause-fragments : goal.returns-then-not-contains-2-clause-fragments
-returns-then-not-contains-2-clause-fragments c = ?
-
-pub returns-then-not-contains-2-clause-points : goal.returns-then-not-contains-2-clause-points
-returns-then-not-contains-2-clause-points c = ?
+pub returns-then-not-keeps_any-2 : goal.returns-then-not-keeps_any-2
+returns-then-not-keeps_any-2 c = ?
 
 pub returns : goal.returns
 returns c = ?
