@@ -1,3 +1,4 @@
 pub mod Squares
 pub mod Turned
 pub mod Across
+pub mod OtherPlanes

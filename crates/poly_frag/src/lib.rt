@@ -4,12 +4,10 @@
 mod axis;
 mod clip;
 mod cube;
-mod meets;
-
 mod cut;
 mod frag;
-
-pub use meets::corners;
+mod meets;
 
 pub use cut::split;
 pub use frag::{Edge, Frag, Split};
+pub use meets::corners;
