@@ -176,7 +176,7 @@ leads_once a b c = not_both a (leads b (leads c false)) (leads (neg_ℤ b) (lead
 opposite_multiples : (p q : Plane) (i j : ℕ) → negsuc i *ℤ p.a ≡ pos (suc j) *ℤ q.a → negsuc i *ℤ p.b ≡ pos (suc j) *ℤ q.b → negsuc i *ℤ p.c ≡ pos (suc j) *ℤ q.c → negsuc i *ℤ p.d ≡ pos (suc j) *ℤ q.d → ⊥
 opposite_multiples p q i j ea eb ec ed =
     let same = same_numbers (suc i) (suc j) (neg_ℤ p.a) (neg_ℤ p.b) (neg_ℤ p.c) (neg_ℤ p.d) q.a q.b q.c q.d (omega arith) (omega arith) (coprime-neg p.a p.b p.c p.d p.coprime) q.coprime
-        (turn_first i j p.a q.a ea) (turn_first i j p.b q.b eb) (turn_first i j p.c q.c ec) (turn_first i j p.d q.d ed) in
+    (turn_first i j p.a q.a ea) (turn_first i j p.b q.b eb) (turn_first i j p.c q.c ec) (turn_first i j p.d q.d ed) in
     leads_once p.a p.b p.c p.signed (rw (same.0, same.1, same.2) q.signed)
 
 -- planes of which a multiple is a multiple of the other are one
@@ -192,7 +192,7 @@ same_from_multiples p q (negsuc i) (pos zero) hm hn ea eb ec ed = absurd (hn ref
 same_from_multiples p q (negsuc i) (pos (suc j)) hm hn ea eb ec ed = absurd (opposite_multiples p q i j ea eb ec ed)
 same_from_multiples p q (negsuc i) (negsuc j) hm hn ea eb ec ed =
     let same = same_numbers (suc i) (suc j) p.a p.b p.c p.d q.a q.b q.c q.d (omega arith) (omega arith) p.coprime q.coprime
-        (turn_both i j p.a q.a ea) (turn_both i j p.b q.b eb) (turn_both i j p.c q.c ec) (turn_both i j p.d q.d ed) in
+    (turn_both i j p.a q.a ea) (turn_both i j p.b q.b eb) (turn_both i j p.c q.c ec) (turn_both i j p.d q.d ed) in
     same_plane p q same.0 same.1 same.2 same.3
 
 -- ---- the walls

@@ -14,7 +14,7 @@ use Rattle.plane_core.proofs.Laws.{wall_at, walls_given}
 use Rattle.convex_cycles.specs.Cycles.{Step, AreConvex}
 use Rattle.convex_cycles.specs.Sides.{IsTouching}
 use Rattle.poly_frag.specs.Cubes.{IsInCube}
-use Rattle.poly_frag.specs.Frags.{numbered, plane_at, side_of, sides_of, support_of}
+use Rattle.poly_frag.specs.Frags.{numbered, side_of, sides_of, support_of}
 use Rattle.poly_frag.specs.Cycles.{IsCycle}
 use Rattle.poly_frag.specs.Squares.{coefficient, axis_after, low_edge, high_edge, edges_across, HoldsCube}
 use Rattle.poly_frag.specs.declared.frag.Edge.{Edge}
@@ -136,8 +136,7 @@ IsBetween axis p = (pos 0 ≤ℤ value (low_side axis) p) × (pos 0 ≤ℤ value
 
 pub touching_across : (axis : Axis) (p : Point) → IsTouching (sides_across axis) p ↔ (IsBetween (axis_after axis) p × IsBetween (axis_after (axis_after axis)) p)
 touching_across axis p =
-    let P : Plane → Type 0 = λ h. pos 0 ≤ℤ value h p in
-    (
+    let P : Plane → Type 0 = λ h. pos 0 ≤ℤ value h p in (
       (λ h. let r = recursion_from_All P (sides_across axis) h in ((r.1.1.1.0, r.1.0), (r.0, r.1.1.0))),
       (λ h. four_of P (low_side (axis_after (axis_after axis))) (high_side (axis_after axis)) (high_side (axis_after (axis_after axis))) (low_side (axis_after axis)) h.1.0 h.0.1 h.1.1 h.0.0),
     )
@@ -202,9 +201,9 @@ pub cube_across : (axis : Axis) (p : Point) → (IsTouching (sides_across axis) 
 cube_across axis p = (
   (λ h. let b = (touching_across axis p).0 h.0 in (cube_by_axes p).1 (between_each axis p (h.1, h.2) b.0 b.1)),
   (λ c.
-    let each = (cube_by_axes p).0 c in
-    let own = each_between axis p each in
-    ((touching_across axis p).1 (each_between (axis_after axis) p each, each_between (axis_after (axis_after axis)) p each), own.0, own.1)),
+      let each = (cube_by_axes p).0 c in
+      let own = each_between axis p each in
+      ((touching_across axis p).1 (each_between (axis_after axis) p each, each_between (axis_after (axis_after axis)) p each), own.0, own.1)),
 )
 
 holds_by : (sides : List Plane) (g h : Plane) (axis : Axis) (p : Point) → sides ≡ sides_across axis → g ≡ low_side axis → h ≡ high_side axis

@@ -1,6 +1,7 @@
 pub mod Across
 pub mod Ahead
 pub mod Kept
+pub mod OtherPlanes
 pub mod Pieces
 pub mod Splitting
 pub mod Squares

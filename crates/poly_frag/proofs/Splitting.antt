@@ -1,19 +1,15 @@
 -- What a plane leaves of a fragment on its two sides.
-use Rattle.std.proofs.Common.{◌≡◌, ◌≢◌, ◌⊎◌, inl, inr, ◌<◌, true, false, ℕ, List, map, slice_get, Option, Some, None, ℤ, pos, neg_ℤ, ◌*ℤ◌, ◌<ℤ◌, ◌≤ℤ◌, IsTrue, refl, sym, ap, ◌∙◌, subst, arith}
+use Rattle.std.proofs.Common.{◌≡◌, ◌≢◌, ◌⊎◌, inl, inr, ◌<◌, true, false, ℕ, zero, suc, List, [], ◌∷◌, length, map, slice_get, Option, Some, None, ℤ, pos, neg_ℤ, ◌*ℤ◌, ◌<ℤ◌, ◌≤ℤ◌, IsTrue, refl, sym, ap, ◌∙◌, subst, arith}
 use Rattle.std.proofs.lemmas.Int.{ints}
 use Rattle.spec_space.specs.declared.Plane.{Plane}
 use Rattle.spec_space.specs.Points.{value, opposite}
 use Rattle.plane_core.specs.declared.numbers.Plane.{Plane as BookPlane}
 use Rattle.plane_core.specs.declared.numbers.Corner.{Corner}
 use Rattle.plane_core.specs.declared.book.PlaneId.{PlaneId}
-use Rattle.plane_core.specs.Numbers.{leads_positive}
-use Rattle.plane_core.specs.Views.{plane_of}
 use Rattle.plane_core.specs.Books.{AreDistinct}
-use Rattle.plane_core.proofs.Laws.{one_number, same_from_multiples}
 use Rattle.convex_cycles.specs.Cycles.{Step, AreConvex}
 use Rattle.convex_cycles.proofs.Lists.{Member}
 use Rattle.convex_cycles.proofs.Links.{IsLinked, sides, edge, at_ends}
-use Rattle.convex_cycles.proofs.Areas.{AreMultiples, all_on, second_factor}
 use Rattle.convex_cycles.proofs.Rounds.{Begins}
 use Rattle.convex_cycles.proofs.CutCycles.{to_cycle, linked}
 use Rattle.convex_cycles.proofs.Cuts.{KeptBy, NotKeptBy, BehindOf, HasInner, behind_or_on, lies_in_front, has_inner, none_inside}
@@ -25,35 +21,24 @@ use Rattle.poly_frag.specs.declared.frag.Edge.{Edge}
 use Rattle.poly_frag.specs.declared.frag.Frag.{Frag}
 use Rattle.poly_frag.specs.declared.frag.Split.{Split}
 use Rattle.poly_frag.specs.declared.frag.Split.TheVariants.{Front, Back, Both}
+use Rattle.poly_frag.proofs.OtherPlanes.{one_number_by_corners}
 use Rattle.poly_frag.proofs.Kept.{flags_of}
 use Rattle.poly_frag.proofs.Pieces.{Piece, piece, part_from, part_in_cube, same_edges_of}
 use Rattle.poly_frag.proofs.Ahead.{IsOtherSide, some_ahead, none_ahead, behind_other, touches_other}
 use Rattle.poly_frag.proofs.Wholes.{same_cycle, same_fragment, opposite_side, front_side}
 
 -- ---- a plane that holds all corners is the support
-no_zeros : (p : BookPlane) → (p.a ≡ pos 0) × (p.b ≡ pos 0) × (p.c ≡ pos 0) × (p.d ≡ pos 0) → ⊥
-no_zeros p z = clash p.a p.b p.c z.0 z.1 z.2 p.signed
-  where
-    clash : (a b c : ℤ) → a ≡ pos 0 → b ≡ pos 0 → c ≡ pos 0 → IsTrue (leads_positive a b c) → ⊥
-    clash a b c ea eb ec t = cc
-
-one_plane : (planes : List BookPlane) (i j : PlaneId) (p q : BookPlane) → AreDistinct planes → slice_get planes i.k ≡ Some p → slice_get planes j.k ≡ Some q
-    → AreMultiples (plane_of p) (plane_of q) → i.k ≡ j.k
-one_plane planes i j p q distinct at_i at_j m =
-    one_number planes i.k j.k p distinct at_i
-    (at_j ∙ ap Some (sym (same_from_multiples p q m.first m.second m.some (second_factor (plane_of p) (plane_of q) m (no_zeros p)) m.same_a m.same_b m.same_c m.same_d)))
-
-pub not_all_on : (planes : List BookPlane) (f : Frag) (by : PlaneId) (p q : BookPlane) (cycle : IsCycle planes f) → AreDistinct planes → slice_get planes by.k ≡ Some p → slice_get planes f.support.k ≡ Some q
-    → by.k ≢ f.support.k → ((e : Step) → Member e cycle.steps → value (plane_of p) e.start ≡ pos 0) → ⊥
-not_all_on planes f by p q cycle distinct at_by at_support other on =
+not_all_on : (planes : List BookPlane) (f : Frag) (by : PlaneId) (cycle : IsCycle planes f) → AreDistinct planes → by.k < length planes → by.k ≢ f.support.k
+    → ((e : Step) → Member e cycle.steps → value (plane_at planes by) e.start ≡ pos 0) → ⊥
+not_all_on planes f by cycle distinct given other on =
     let s = support_of planes f in
     let links = linked s cycle.steps (to_cycle s cycle.steps cycle.convex) in
     let e = links.first in
     let m = links.first_of in
     let before = links.before e m in
-    let multiples = all_on s (plane_of p) e before.step (edge s cycle.steps links e m) (edge s cycle.steps links before.step before.of_list) before.holds (on e m)
-        (at_ends s cycle.steps links (λ c. value (plane_of p) c ≡ pos 0) on e m) (on before.step before.of_list) in
-    other (one_plane planes by f.support p q distinct at_by at_support (subst (λ o. AreMultiples (plane_of p) (numbered o)) at_support multiples))
+    other (sym (one_number_by_corners planes f.support by e before.step distinct cycle.support_given given
+        (edge s cycle.steps links e m) (edge s cycle.steps links before.step before.of_list) before.holds (on e m)
+        (at_ends s cycle.steps links (λ c. value (plane_at planes by) c ≡ pos 0) on e m) (on before.step before.of_list)))
 
 -- ---- a fragment on one side of a plane
 -- no corner is on the side k, which is the other side of h, and not all are on the plane: the fragment lies on the side h
@@ -100,10 +85,9 @@ back_edge by = record { plane = by; keep_front = false }
 abbrev pub IsAnswer : List BookPlane → Frag → PlaneId → Split → Type 0
 IsAnswer planes f by split = AreSplitFragments planes split × IsSplit planes f by split × AreSplitEdges f by split
 
-module _ (planes : List BookPlane) (f : Frag) (by : PlaneId) (fragment : IsFragment planes f) (p q : BookPlane) (distinct : AreDistinct planes)
-    (at_by : slice_get planes by.k ≡ Some p) (at_support : slice_get planes f.support.k ≡ Some q) (other : by.k ≢ f.support.k) where
+module _ (planes : List BookPlane) (f : Frag) (by : PlaneId) (fragment : IsFragment planes f) (distinct : AreDistinct planes) (given : by.k < length planes) (other : by.k ≢ f.support.k) where
   not_all : ((e : Step) → Member e fragment.cycle.steps → value (plane_at planes by) e.start ≡ pos 0) → ⊥
-  not_all on = not_all_on planes f by p q fragment.cycle distinct at_by at_support other (λ e m. subst (λ o. value (numbered o) e.start ≡ pos 0) at_by (on e m))
+  not_all on = not_all_on planes f by fragment.cycle distinct given other on
 
   pub in_front : (g : Frag) → g.support ≡ f.support → g.edges.items ≡ f.edges.items → ((e : Step) → Member e fragment.cycle.steps → NotKeptBy (opposite (plane_at planes by)) e.start) → IsAnswer planes f by (Front g)
   in_front g support edges none =
