@@ -1,3 +1,4 @@
 pub mod Sizes
 pub mod Rings
 pub mod Fans
+pub mod Prints

@@ -3,6 +3,8 @@
 #![tactic(auto)]
 
 mod mesh;
+#[cfg(test)]
+mod tests;
 mod vectors;
 mod volume;
 

@@ -1,4 +1,3 @@
-use Rattle.std.proofs.Common.{subst, sym}
 use Rattle.exact_mesh.proofs.Sizes.{cross_within}
 use Rattle.exact_mesh.proofs.vectors.triple_product.Goals as goal
 

@@ -1,4 +1,4 @@
-use Rattle.std.proofs.Common.{◌≡◌, ◌+ℤ◌, ◌∙◌, ap, rules, arith, FitsSigned, unsigned_abs}
+use Rattle.std.proofs.Common.{◌+ℤ◌, ◌∙◌, ap, rules, FitsSigned, unsigned_abs}
 use mir.Syntax.{w128}
 use Rattle.exact_mesh.proofs.Fans.{fan_step, added, added_size}
 use Rattle.exact_mesh.proofs.volume.add_fan.Goals as goal
