@@ -1,9 +1,10 @@
--- One triangle more of a fan, and one face more of a volume.
+-- One triangle more of a fan.
 use Rattle.std.proofs.Common.{◌≡◌, ℕ, ◌+◌, ◌*◌, ◌^◌, ◌<◌, ◌≤◌, ℤ, ◌+ℤ◌, List, ◌∷◌, length, drop, get_or, add-one, drop-cons, arith, unsigned_abs, FitsSigned, to_z, of_z}
 use Rattle.std.proofs.lemmas.Int.{ints, to_z-of_z}
 use mir.Syntax.{w128}
 use Rattle.exact_mesh.specs.Meshes.{tetrahedron, fan_of}
 
+-- where one more triangle was added, what was added with what is still to come is the same sum
 pub fan_step : (corners : List (List ℤ)) (first from : ℕ) (rest : List ℕ) (i : ℕ) (before now total : ℤ) → i < length rest
     → now ≡ before +ℤ tetrahedron corners first from (get_or rest i 0)
     → before +ℤ fan_of corners first from (drop i rest) ≡ total
@@ -23,5 +24,6 @@ fan_step corners first from rest i before now total h added all =
 pub added : (before one now : ℤ) → FitsSigned w128 one → now ≡ before +ℤ to_z w128 (of_z w128 one) → now ≡ before +ℤ one
 added before one now fits is = rw (to_z-of_z w128 one fits) at is
 
+-- a number of 128 bits adds at most 2^127 to a size
 pub added_size : (before one now : ℤ) (m i : ℕ) → FitsSigned w128 one → now ≡ before +ℤ one → unsigned_abs before ≤ m + i * 2 ^ 127 → unsigned_abs now ≤ m + (i + 1) * 2 ^ 127
 added_size before one now m i fits is size = let small = fits.sfits in omega (arith, ints)

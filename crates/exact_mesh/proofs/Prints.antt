@@ -17,6 +17,7 @@ printed_at e corners same i =
     ∙ ap (λ vs. slice_index_or vs i (vector_of [])) same
     ∙ get_or-map vector_of corners i []
 
+-- for an element with these printed corners and these faces
 pub printed_volume_is : (e : Element) (corners : List (List ℤ)) (faces : List MeshFace)
     → map (λ c. c.printed) e.corners ≡ map vector_of corners → e.faces ≡ map face_of faces
     → printed_volume e ≡ mesh_volume corners faces

@@ -19,7 +19,9 @@ pub struct MeshFace {
 /// A mesh with exact corners, in grid steps.
 #[derive(Debug, Drop)]
 pub struct ExactMesh {
+    /// Its corners; faces name them by their places.
     pub corners: Vec<Corner>,
+    /// Its faces, seen from outside.
     pub faces: Vec<MeshFace>,
 }
 

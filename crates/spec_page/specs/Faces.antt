@@ -68,6 +68,7 @@ faces_at e p = filter (λ f. lies_on f p) e.faces
 abbrev pub edge_ends : Face → List (ℕ × ℕ)
 edge_ends f = zip f.corners (rotated f.corners)
 
+-- the edge goes from u to v
 abbrev pub goes_between : ℕ → ℕ → ℕ × ℕ → Bool
 goes_between u v ends = (ends.0 == u) && (ends.1 == v)
 
