@@ -1,6 +1,9 @@
 //! Sources and sinks of bytes that count their faults.
 #![tactic(auto)]
 
+mod count_sink;
+mod failing_sink;
+mod failing_source;
 mod fault;
 mod memory_sink;
 mod memory_source;
@@ -11,6 +14,9 @@ mod std_ends;
 mod tests;
 mod whole;
 
+pub use count_sink::CountSink;
+pub use failing_sink::FailSink;
+pub use failing_source::FailSource;
 pub use fault::{Failed, TakeFault, WriteFault};
 pub use memory_sink::MemSink;
 pub use memory_source::MemSource;

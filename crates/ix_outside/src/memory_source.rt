@@ -8,13 +8,14 @@ use crate::fault::Failed;
 use crate::source::Source;
 use std::marker::Model;
 
-/// Fills a front part of the buffer from a place in the bytes, with as many as there are.
-fn give(bytes: &[u8], at: usize, buf: &mut [u8]) -> usize
+/// Fills a front part of the buffer from a place in the bytes, with as many as there are, and at
+/// most `most`.
+pub(crate) fn give(bytes: &[u8], at: usize, most: usize, buf: &mut [u8]) -> usize
     requires { at ≤ length bytes.now }
-    ensures count { result ≡ min (length buf.old) (length bytes.now - at) }
+    ensures count { result ≡ min (min (length buf.old) most) (length bytes.now - at) }
     ensures filled { take result buf.new ≡ take result (drop at bytes.now) }
 {
-    let count = buf.len().min(bytes.len() - at);
+    let count = buf.len().min(most).min(bytes.len() - at);
     buf[..count].copy_from_slice(&bytes[at..at + count]);
     count
 }
@@ -57,7 +58,7 @@ impl Source for MemSource {
         // As many as the buffer takes and the source has.
         ensures gives { IfOk result (λ n. n ≡ min (length buf.old) (length self.old)) }
     {
-        let count = give(&self.bytes, self.at, buf);
+        let count = give(&self.bytes, self.at, usize::MAX, buf);
         self.at += count;
         Ok(count)
     }

@@ -5,7 +5,7 @@ use Rattle.spec_space.specs.declared.Vector.{Vector}
 use Rattle.spec_space.specs.Points.{minus, cross, dot, way}
 use Rattle.spec_solid.specs.Triangles.{Triangle, turn}
 use Rattle.plain_meaning.specs.Sizes.{IsWithin, IsSmallPoint, IsSmallTriangle}
-use Rattle.plain_meaning.proofs.Numbers.{size_add, size_sub, size_mul}
+use Rattle.integer_laws.proofs.Sizes.{size_add, size_sub, size_mul}
 
 pub minus_within : (u v : Vector) → IsWithin (2 ^ 20) u → IsWithin (2 ^ 20) v → IsWithin (2 ^ 21) (minus u v)
 minus_within u v h k = record {

@@ -1,3 +1,3 @@
-pub mod Numbers
+pub mod Triples
 pub mod Bounds
 pub mod Elements

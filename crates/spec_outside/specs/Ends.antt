@@ -11,6 +11,25 @@ pub record MemorySink : Type 0 where
   pub room : ℕ
   pub faults : ℕ
 
+-- the bytes left, the most bytes of one call, the numbers of the calls that fail, from 1, and the counts of calls and
+-- faults
+pub record FailingSource : Type 0 where
+  pub left : List ℕ
+  pub most : ℕ
+  pub fail_at : List ℕ
+  pub calls : ℕ
+  pub faults : ℕ
+
+-- the bytes held, the number of bytes that find room, the most bytes of one call, the numbers of the calls that fail,
+-- from 1, and the counts of calls and faults
+pub record FailingSink : Type 0 where
+  pub held : List ℕ
+  pub room : ℕ
+  pub most : ℕ
+  pub fail_at : List ℕ
+  pub calls : ℕ
+  pub faults : ℕ
+
 -- a reader or a writer of std, and the count of its faults
 pub record Counted (X : Type 0) : Type 0 where
   pub inner : X

@@ -1,6 +1,6 @@
 -- When a printed face is sound and full, and when a point lies on it.
 use Rattle.std.specs.Prelude.{◌≡◌, ◌≢◌, ℕ, pos, ◌<◌, ◌≤◌, ◌*ℤ◌, ◌<ℤ◌, ◌≤ℤ◌, int_lt, Bool, ◌&&◌, ◌==◌, List, [], ◌∷◌, ◌++◌, length, map, filter, All, Any, AllPairs, unsigned_abs, slice_index_or, ◌⊎◌}
-use Rattle.std.specs.List.{list_all}
+use Rattle.std.specs.List.{list_all, sum_by, count_by, zip}
 use Rattle.spec_space.specs.declared.Point.{Point}
 use Rattle.spec_space.specs.declared.Plane.{Plane}
 use Rattle.spec_space.specs.declared.Vector.{Vector}
@@ -63,3 +63,15 @@ lies_on f p = (unsigned_abs (value f.plane p) == 0) && list_all (λ m. int_lt (v
 -- the faces of an element on which a point lies
 abbrev pub faces_at : Element → Point → List Face
 faces_at e p = filter (λ f. lies_on f p) e.faces
+
+-- the edges of a face by the places of their ends: from each corner to the next, and from the last to the first
+abbrev pub edge_ends : Face → List (ℕ × ℕ)
+edge_ends f = zip f.corners (rotated f.corners)
+
+-- the edge goes from u to v
+abbrev pub goes_between : ℕ → ℕ → ℕ × ℕ → Bool
+goes_between u v ends = (ends.0 == u) && (ends.1 == v)
+
+-- the number of places over the faces at which u is followed by v, the last place of a face being followed by its first
+abbrev pub edge_count : List Face → ℕ → ℕ → ℕ
+edge_count faces u v = sum_by (λ f. count_by (goes_between u v) (edge_ends f)) faces

@@ -1,5 +1,5 @@
 use Rattle.std.proofs.Common.{ap₂, int_le}
-use Rattle.plain_meaning.proofs.Numbers.{arg, again, product}
+use Rattle.integer_laws.proofs.Computed.{arg, again, product}
 use Rattle.plain_meaning.proofs.triangles.is_low.Goals as goal
 
 pub returns : goal.returns

@@ -2,7 +2,7 @@ use Rattle.std.proofs.Common.{int_lt, ◌≡◌, ◌*ℤ◌, pos, true, ap, ◌&
 use Rattle.spec_space.specs.Points.{dot, way}
 use Rattle.spec_solid.specs.Triangles.{differ, passes_above, turn}
 use Rattle.plain_meaning.specs.Meanings.{triangle_of}
-use Rattle.plain_meaning.proofs.Numbers.{arg}
+use Rattle.integer_laws.proofs.Computed.{arg}
 use Rattle.plain_meaning.proofs.Bounds.{turn_within, way_within, dot_within}
 use Rattle.plain_meaning.proofs.triangles.is_pierced.Goals as goal
 

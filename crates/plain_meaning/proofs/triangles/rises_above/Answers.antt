@@ -1,7 +1,7 @@
 use Rattle.std.proofs.Common.{◌^◌, refl}
 use Rattle.plain_meaning.specs.Sizes.{IsWithin}
 use Rattle.plain_meaning.proofs.Bounds.{minus_within, way_within}
-use Rattle.plain_meaning.proofs.Numbers.{arg, again, product, fits}
+use Rattle.integer_laws.proofs.Computed.{arg, again, product, fits}
 use Rattle.plain_meaning.proofs.triangles.rises_above.Goals as goal
 
 pub overflow_mul-result : goal.overflow_mul-result

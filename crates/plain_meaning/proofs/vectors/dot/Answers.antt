@@ -1,4 +1,4 @@
-use Rattle.plain_meaning.proofs.Numbers.{arg, again, sum, product, fits}
+use Rattle.integer_laws.proofs.Computed.{arg, again, sum, product, fits}
 use Rattle.plain_meaning.proofs.vectors.dot.Goals as goal
 
 pub overflow_add-result : goal.overflow_add-result

@@ -1,4 +1,4 @@
-use Rattle.plain_meaning.proofs.Numbers.{arg, again, difference, product, fits}
+use Rattle.integer_laws.proofs.Computed.{arg, again, difference, product, fits}
 use Rattle.plain_meaning.proofs.vectors.minor.Goals as goal
 
 pub overflow_sub-result : goal.overflow_sub-result

@@ -1,4 +1,5 @@
-use Rattle.plain_meaning.proofs.Numbers.{arg, again, difference, vector_is}
+use Rattle.integer_laws.proofs.Computed.{arg, again, difference}
+use Rattle.plain_meaning.proofs.Triples.{vector_is}
 use Rattle.plain_meaning.proofs.vectors.minus.Goals as goal
 
 pub returns : goal.returns

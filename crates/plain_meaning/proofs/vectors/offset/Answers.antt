@@ -1,4 +1,4 @@
-use Rattle.plain_meaning.proofs.Numbers.{arg, again, difference, product}
+use Rattle.integer_laws.proofs.Computed.{arg, again, difference, product}
 use Rattle.plain_meaning.proofs.vectors.offset.Goals as goal
 
 pub returns : goal.returns

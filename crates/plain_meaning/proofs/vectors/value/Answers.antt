@@ -1,4 +1,4 @@
-use Rattle.plain_meaning.proofs.Numbers.{arg, again, sum, difference, product, fits}
+use Rattle.integer_laws.proofs.Computed.{arg, again, sum, difference, product, fits}
 use Rattle.plain_meaning.proofs.vectors.value.Goals as goal
 
 pub overflow_add-result : goal.overflow_add-result

@@ -1,0 +1,4 @@
+pub mod Sizes
+pub mod Rings
+pub mod Fans
+pub mod Prints
