@@ -59,7 +59,7 @@ unfolding same_cycle
 same_fragment planes f g support edges fragment = record { cycle = same_cycle planes f g support edges fragment.cycle; in_cube = fragment.in_cube }
 
 -- ---- for on_cube
-corner_in : (planes : List BookPlane) (f : Frag) (cycle : IsCycle planes f) (e : Step) → Member e cycle.steps → IsPoint e.start × IsIn planes f e.start
+pub corner_in : (planes : List BookPlane) (f : Frag) (cycle : IsCycle planes f) (e : Step) → Member e cycle.steps → IsPoint e.start × IsIn planes f e.start
 corner_in planes f cycle e m =
     let s = support_of planes f in
     let links = linked s cycle.steps (to_cycle s cycle.steps cycle.convex) in
