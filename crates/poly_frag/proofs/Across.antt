@@ -35,7 +35,7 @@ high_side X = opposite (x_plane (pos 1048577))
 high_side Y = opposite (y_plane (pos 1048577))
 high_side Z = opposite (z_plane (pos 1048577))
 
-abbrev plane_or : Option Plane → Plane
+abbrev pub plane_or : Option Plane → Plane
 plane_or (Some h) = h
 plane_or None = record { a = pos 0; b = pos 0; c = pos 0; d = pos 0 }
 
@@ -43,7 +43,7 @@ numbered-map : (o : Option BookPlane) → numbered o ≡ plane_or (option_map pl
 numbered-map (Some p) = refl
 numbered-map None = refl
 
-wall_numbered : (planes : List BookPlane) (k : ℕ) → BeginsWithWalls planes → k < 6 → numbered (slice_get planes k) ≡ plane_or (slice_get cube_walls k)
+pub wall_numbered : (planes : List BookPlane) (k : ℕ) → BeginsWithWalls planes → k < 6 → numbered (slice_get planes k) ≡ plane_or (slice_get cube_walls k)
 wall_numbered planes k walls h = numbered-map (slice_get planes k) ∙ ap plane_or (wall_at planes k walls h)
 
 pub low_edge_side : (planes : List BookPlane) (axis : Axis) → BeginsWithWalls planes → side_of planes (low_edge axis) ≡ low_side axis
@@ -67,17 +67,17 @@ edges_across_sides planes axis walls =
     four_sides (low_edge_side planes (axis_after (axis_after axis)) walls) (high_edge_side planes (axis_after axis) walls)
     (high_edge_side planes (axis_after (axis_after axis)) walls) (low_edge_side planes (axis_after axis) walls)
 
-low_given : (n : ℕ) (axis : Axis) → 6 ≤ n → (low_edge axis).plane.k < n
+pub low_given : (n : ℕ) (axis : Axis) → 6 ≤ n → (low_edge axis).plane.k < n
 low_given n X h = omega arith
 low_given n Y h = omega arith
 low_given n Z h = omega arith
 
-high_given : (n : ℕ) (axis : Axis) → 6 ≤ n → (high_edge axis).plane.k < n
+pub high_given : (n : ℕ) (axis : Axis) → 6 ≤ n → (high_edge axis).plane.k < n
 high_given n X h = omega arith
 high_given n Y h = omega arith
 high_given n Z h = omega arith
 
-edges_given : (n : ℕ) (axis : Axis) → 6 ≤ n → All (λ e. e.plane.k < n) (edges_across axis)
+pub edges_given : (n : ℕ) (axis : Axis) → 6 ≤ n → All (λ e. e.plane.k < n) (edges_across axis)
 edges_given n axis h =
     four_of (λ e. e.plane.k < n) (low_edge (axis_after (axis_after axis))) (high_edge (axis_after axis)) (high_edge (axis_after (axis_after axis))) (low_edge (axis_after axis))
     (low_given n (axis_after (axis_after axis)) h) (high_given n (axis_after axis) h) (high_given n (axis_after (axis_after axis)) h) (low_given n (axis_after axis) h)

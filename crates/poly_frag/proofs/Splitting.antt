@@ -1,31 +1,28 @@
 -- What a plane leaves of a fragment on its two sides.
-use Rattle.std.proofs.Common.{◌≡◌, ◌≢◌, ◌⊎◌, inl, inr, ◌<◌, true, false, ℕ, zero, suc, List, [], ◌∷◌, length, map, slice_get, Option, Some, None, ℤ, pos, neg_ℤ, ◌*ℤ◌, ◌<ℤ◌, ◌≤ℤ◌, IsTrue, refl, sym, ap, ◌∙◌, subst, arith}
+use Rattle.std.proofs.Common.{◌≡◌, ◌≢◌, inl, inr, ◌<◌, true, false, List, length, map, ℤ, pos, neg_ℤ, ◌<ℤ◌, sym, ap, ◌∙◌, subst, arith}
 use Rattle.std.proofs.lemmas.Int.{ints}
 use Rattle.spec_space.specs.declared.Plane.{Plane}
 use Rattle.spec_space.specs.Points.{value, opposite}
 use Rattle.plane_core.specs.declared.numbers.Plane.{Plane as BookPlane}
-use Rattle.plane_core.specs.declared.numbers.Corner.{Corner}
 use Rattle.plane_core.specs.declared.book.PlaneId.{PlaneId}
 use Rattle.plane_core.specs.Books.{AreDistinct}
-use Rattle.convex_cycles.specs.Cycles.{Step, AreConvex}
+use Rattle.convex_cycles.specs.Cycles.{Step}
 use Rattle.convex_cycles.proofs.Lists.{Member}
-use Rattle.convex_cycles.proofs.Links.{IsLinked, sides, edge, at_ends}
+use Rattle.convex_cycles.proofs.Links.{sides, edge, at_ends}
 use Rattle.convex_cycles.proofs.Rounds.{Begins}
 use Rattle.convex_cycles.proofs.CutCycles.{to_cycle, linked}
-use Rattle.convex_cycles.proofs.Cuts.{KeptBy, NotKeptBy, BehindOf, HasInner, behind_or_on, lies_in_front, has_inner, none_inside}
-use Rattle.poly_frag.specs.Clips.{closed_round, kept_edges}
-use Rattle.poly_frag.specs.Frags.{numbered, plane_at, side_of, sides_of, support_of, IsPartOf, HasPart, AreEdgesOf}
-use Rattle.poly_frag.specs.Cycles.{IsCycle, IsFragment, AreCorners}
+use Rattle.convex_cycles.proofs.Cuts.{KeptBy, NotKeptBy, HasInner, behind_or_on, lies_in_front, has_inner, none_inside}
+use Rattle.poly_frag.specs.Frags.{plane_at, side_of, support_of, IsPartOf, HasPart}
+use Rattle.poly_frag.specs.Cycles.{IsCycle, IsFragment}
 use Rattle.poly_frag.specs.Splits.{IsSplit, AreSplitFragments, AreSplitEdges}
 use Rattle.poly_frag.specs.declared.frag.Edge.{Edge}
 use Rattle.poly_frag.specs.declared.frag.Frag.{Frag}
 use Rattle.poly_frag.specs.declared.frag.Split.{Split}
 use Rattle.poly_frag.specs.declared.frag.Split.TheVariants.{Front, Back, Both}
 use Rattle.poly_frag.proofs.OtherPlanes.{one_number_by_corners}
-use Rattle.poly_frag.proofs.Kept.{flags_of}
-use Rattle.poly_frag.proofs.Pieces.{Piece, piece, part_from, part_in_cube, same_edges_of}
-use Rattle.poly_frag.proofs.Ahead.{IsOtherSide, some_ahead, none_ahead, behind_other, touches_other}
-use Rattle.poly_frag.proofs.Wholes.{same_cycle, same_fragment, opposite_side, front_side}
+use Rattle.poly_frag.proofs.Pieces.{Piece, part_from, part_in_cube, same_edges_of}
+use Rattle.poly_frag.proofs.Ahead.{IsOtherSide, touches_other}
+use Rattle.poly_frag.proofs.Wholes.{same_fragment, opposite_side, front_side}
 
 -- ---- a plane that holds all corners is the support
 not_all_on : (planes : List BookPlane) (f : Frag) (by : PlaneId) (cycle : IsCycle planes f) → AreDistinct planes → by.k < length planes → by.k ≢ f.support.k
@@ -37,8 +34,8 @@ not_all_on planes f by cycle distinct given other on =
     let m = links.first_of in
     let before = links.before e m in
     other (sym (one_number_by_corners planes f.support by e before.step distinct cycle.support_given given
-        (edge s cycle.steps links e m) (edge s cycle.steps links before.step before.of_list) before.holds (on e m)
-        (at_ends s cycle.steps links (λ c. value (plane_at planes by) c ≡ pos 0) on e m) (on before.step before.of_list)))
+    (edge s cycle.steps links e m) (edge s cycle.steps links before.step before.of_list) before.holds (on e m)
+    (at_ends s cycle.steps links (λ c. value (plane_at planes by) c ≡ pos 0) on e m) (on before.step before.of_list)))
 
 -- ---- a fragment on one side of a plane
 -- no corner is on the side k, which is the other side of h, and not all are on the plane: the fragment lies on the side h
@@ -93,7 +90,7 @@ module _ (planes : List BookPlane) (f : Frag) (by : PlaneId) (fragment : IsFragm
   in_front g support edges none =
       let k = opposite (plane_at planes by) in
       let w = whole planes f g (plane_at planes by) k fragment (opposite_side (plane_at planes by)) (front_side (plane_at planes by)) support edges none
-          (λ on. not_all (zero_other k (plane_at planes by) (opposite_side (plane_at planes by)) fragment.cycle.steps on)) in
+      (λ on. not_all (zero_other k (plane_at planes by) (opposite_side (plane_at planes by)) fragment.cycle.steps on)) in
       (w.fragment, (w.part, w.has, w.none), (support, same_edges_of f g (front_edge by) edges))
 
   pub behind : (g : Frag) → g.support ≡ f.support → g.edges.items ≡ f.edges.items → ((e : Step) → Member e fragment.cycle.steps → NotKeptBy (plane_at planes by) e.start) → IsAnswer planes f by (Back g)
@@ -103,7 +100,8 @@ module _ (planes : List BookPlane) (f : Frag) (by : PlaneId) (fragment : IsFragm
 
 -- pieces on both sides
 pub both_sides : (planes : List BookPlane) (f g k : Frag) (by : PlaneId) (fragment : IsFragment planes f) → Piece planes g f (front_edge by) → Piece planes k f (back_edge by) → IsAnswer planes f by (Both g k)
-both_sides planes f g k by fragment first second =
-    ((part_in_cube planes g f (plane_at planes by) fragment first.cycle first.support first.part, part_in_cube planes k f (opposite (plane_at planes by)) fragment second.cycle second.support second.part),
-      (first.part, first.has, second.part, second.has),
-      (first.support, first.edges, second.support, second.edges))
+both_sides planes f g k by fragment first second = (
+  (part_in_cube planes g f (plane_at planes by) fragment first.cycle first.support first.part, part_in_cube planes k f (opposite (plane_at planes by)) fragment second.cycle second.support second.part),
+  (first.part, first.has, second.part, second.has),
+  (first.support, first.edges, second.support, second.edges),
+)

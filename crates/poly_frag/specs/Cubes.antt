@@ -1,5 +1,5 @@
 -- The closed enclosing cube, and when a part of a plane has area.
-use Rattle.std.specs.Prelude.{◌≡◌, ◌↔◌, ℤ, pos, negsuc, ◌*ℤ◌, ◌≤ℤ◌, List}
+use Rattle.std.specs.Prelude.{◌≡◌, ◌↔◌, pos, negsuc, ◌*ℤ◌, ◌≤ℤ◌, List}
 use Rattle.spec_space.specs.declared.Point.{Point}
 use Rattle.spec_space.specs.declared.Plane.{Plane}
 use Rattle.spec_space.specs.Points.{IsPoint, value}
