@@ -1,2 +1,5 @@
 pub mod Machine
 pub mod Parts
+pub mod Answers
+pub mod Schemas
+pub mod Printing
