@@ -3,7 +3,6 @@ use Rattle.std.specs.Prelude.{List, [], ◌∷◌, ◌++◌, Option, Some, None}
 use Rattle.spec_step.specs.declared.token.Span.{Span}
 use Rattle.spec_step.specs.declared.tree.Param.{Param}
 use Rattle.spec_step.specs.declared.tree.Param.TheVariants as param
-use Rattle.spec_step.specs.declared.tree.Entry.{Entry}
 use Rattle.step_grammar.specs.declared.symbol.Atom.{Atom}
 use Rattle.step_grammar.specs.declared.symbol.Atom.TheVariants as atom
 use Rattle.step_grammar.specs.declared.symbol.Symbol.{Symbol}

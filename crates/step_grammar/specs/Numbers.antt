@@ -1,5 +1,5 @@
 -- Decimal digits.
-use Rattle.std.specs.Prelude.{◌≡◌, ℕ, ◌<◌, ◌≤◌, List, length, slice_index}
+use Rattle.std.specs.Prelude.{ℕ, ◌<◌, ◌≤◌, List, length, slice_index}
 
 -- each byte is a decimal digit
 abbrev pub AreDigits : List ℕ → Type 0

@@ -1,8 +1,7 @@
 -- A token, as the grammar sees it.
-use Rattle.std.specs.Prelude.{ℕ, Bool, ◌==◌, List, drop, slice_index, codes, if◌then◌else◌}
+use Rattle.std.specs.Prelude.{ℕ, ◌==◌, List, drop, slice_index, codes, if◌then◌else◌}
 use Rattle.spec_num.specs.Decimals.{value}
 use Rattle.spec_step.specs.Lexemes.{Lexeme}
-use Rattle.spec_step.specs.Grammar.{is_word}
 use Rattle.spec_step.specs.declared.token.Span.{Span}
 use Rattle.spec_step.specs.declared.token.TokenKind.{TokenKind}
 use Rattle.spec_step.specs.declared.token.TokenKind.TheVariants as kind
