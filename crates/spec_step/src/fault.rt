@@ -1,3 +1,5 @@
+ghost use Rattle.std.specs.Prelude.{◌≡◌};
+
 use std::alloc::AllocError;
 use thiserror::Error;
 
@@ -28,6 +30,10 @@ pub enum StepFault {
 }
 
 impl From<AllocError> for StepFault {
+    ghost use Rattle.spec_step.specs.declared.fault.StepFault.TheVariants.{NoMemory};
+
+    ghost from_gives = { λ _ e. e ≡ NoMemory };
+
     fn from(_: AllocError) -> StepFault {
         StepFault::NoMemory
     }

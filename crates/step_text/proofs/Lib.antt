@@ -8,3 +8,6 @@ pub mod Forms
 pub mod Whole
 pub mod Ends
 pub mod Box
+pub mod Laws
+pub mod Repeats
+pub mod HasRead

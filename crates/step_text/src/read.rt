@@ -1,9 +1,15 @@
-ghost use Rattle.std.specs.Prelude.{◌≡◌, IfOk, IfErr};
+ghost use Rattle.std.specs.Prelude.{◌≡◌, ◌≤◌, IfOk, IfErr, IsTrue, length};
+ghost use Rattle.spec_step.specs.Spelling.{is_spelled};
+ghost use Rattle.spec_step.specs.Form.{text_of};
+ghost use Rattle.spec_step.specs.Lexemes.{lexeme_of};
 ghost use Rattle.spec_step.specs.Files.{IsFile};
+ghost use Rattle.step_grammar.specs.Places.{state, step};
+ghost use Rattle.step_grammar.specs.Symbols.{symbol_of};
 ghost use Rattle.step_text.specs.Answers.{IsCauseOrWant};
+ghost use Rattle.step_text.specs.Reading.{Goes, Halts, IsWhole, IsUnfinished};
 
 use crate::next::next_token;
-use spec_step::{Entry, Instance, Span, StepFault, TokenStep};
+use spec_step::{Entry, Instance, Span, StepFault, Token, TokenStep};
 use sqlite_items::Items;
 use std::alloc::Global;
 use step_grammar::{Fixed, Place, Progress, is_too_deep, step, symbol_of};
@@ -16,13 +22,52 @@ pub struct Trees {
 }
 
 /// What was read, where the text ends at a place.
-fn finish(place: &Place, progress: Progress, at: usize) -> Result<Trees, StepFault> {
+fn finish(place: &Place, progress: Progress, at: usize) -> Result<Trees, StepFault>
+    ensures whole { IfOk result (λ trees. IsWhole place.now progress trees.head trees.instances) }
+    ensures unfinished { IfErr result (λ fault. IsUnfinished place.now at fault) }
+{
     match place {
         Place::Fixed(Fixed::Nothing) => Ok(Trees {
             head: progress.head,
             instances: progress.instances,
         }),
         _ => Err(StepFault::Syntax { at }),
+    }
+}
+
+/// One token more: the next place.
+///
+/// # Errors
+///
+/// Where the token may not stand here, or opens the 33rd parenthesis.
+fn read_token(
+    alloc: Global,
+    source: &[u8],
+    token: Token,
+    place: Place,
+    progress: &mut Progress,
+) -> Result<Place, StepFault>
+    requires ordered { token.from ≤ token.end }
+    requires within { token.end ≤ length source.now }
+    requires spelled { IsTrue (is_spelled token.kind (text_of source.now token)) }
+    ensures goes { IfOk result (λ next. Goes (step (state place progress.old) (symbol_of (lexeme_of source.now token)))
+        (state next progress.new)) }
+    ensures halts { IfErr result (λ fault. Halts (step (state place progress.old) (symbol_of (lexeme_of source.now token)))
+        token.from fault) }
+{
+    let span = Span {
+        from: token.from,
+        end: token.end,
+    };
+    let symbol = symbol_of(token.kind, span, &source[token.from..token.end]);
+    match step(alloc, place, progress, symbol)? {
+        None => Err(StepFault::Syntax { at: token.from }),
+        Some(next) => {
+            if is_too_deep(&next, progress) {
+                return Err(StepFault::Nested { at: token.from });
+            }
+            Ok(next)
+        }
     }
 }
 
@@ -43,23 +88,13 @@ pub fn read_trees(alloc: Global, source: &[u8]) -> Result<Trees, StepFault>
     let mut place = Place::Fixed(Fixed::StartWord);
     let mut from = 0;
     'tokens: loop {
-        let token = match next_token(source, from) {
+        match next_token(source, from) {
             TokenStep::Bad { at } => return Err(StepFault::Syntax { at }),
             TokenStep::End => return finish(&place, progress, source.len()),
-            TokenStep::Got(token) => token,
-        };
-        let span = Span {
-            from: token.from,
-            end: token.end,
-        };
-        let symbol = symbol_of(token.kind, span, &source[token.from..token.end]);
-        match step(alloc, place, &mut progress, symbol)? {
-            None => return Err(StepFault::Syntax { at: token.from }),
-            Some(next) => place = next,
+            TokenStep::Got(token) => {
+                place = read_token(alloc, source, token, place, &mut progress)?;
+                from = token.end;
+            }
         }
-        if is_too_deep(&place, &progress) {
-            return Err(StepFault::Nested { at: token.from });
-        }
-        from = token.end;
     }
 }
