@@ -9,5 +9,6 @@ pub mod Whole
 pub mod Ends
 pub mod Box
 pub mod Laws
+pub mod Glue
 pub mod Repeats
 pub mod HasRead
