@@ -1,4 +1,5 @@
-ghost use Rattle.std.specs.Prelude.{◌≡◌, ◌↔◌, IsTrue, Any};
+ghost use Rattle.std.specs.Prelude.{◌≡◌, ◌↔◌, IsTrue};
+ghost use Rattle.std.specs.List.{list_any};
 ghost use Rattle.spec_step.specs.Files.{NamesSchema};
 ghost use Rattle.step_text.specs.Schemas.{is_schema, is_schema_list, is_schema_entry};
 
@@ -15,19 +16,19 @@ fn is_schema(source: &[u8], param: &Param) -> bool
     }
 }
 
+/// Some member is such a text.
+fn has_schema(source: &[u8], members: &[Param]) -> bool
+    ensures { result ≡ list_any (is_schema source.now) members.now }
+{
+    members.iter().any(|member| is_schema(source, member))
+}
+
 /// A list with such a text.
 fn is_schema_list(source: &[u8], param: &Param) -> bool
     ensures { result ≡ is_schema_list source.now param.now }
 {
     match param {
-        Param::List(members) => {
-            for member in members.as_slice() {
-                if is_schema(source, member) {
-                    return true;
-                }
-            }
-            false
-        }
+        Param::List(members) => has_schema(source, members.as_slice()),
         _ => false,
     }
 }
@@ -45,14 +46,16 @@ fn is_schema_entry(source: &[u8], entry: &Entry) -> bool
     }
 }
 
+/// Some entry is such an entry.
+fn has_schema_entry(source: &[u8], head: &[Entry]) -> bool
+    ensures { result ≡ list_any (is_schema_entry source.now) head.now }
+{
+    head.iter().any(|entry| is_schema_entry(source, entry))
+}
+
 /// Whether the header names a schema that is read.
 pub fn names_schema(source: &[u8], head: &[Entry]) -> bool
     ensures { IsTrue result ↔ NamesSchema source.now head.now }
 {
-    for entry in head {
-        if is_schema_entry(source, entry) {
-            return true;
-        }
-    }
-    false
+    has_schema_entry(source, head)
 }
