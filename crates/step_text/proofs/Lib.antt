@@ -9,6 +9,7 @@ pub mod Whole
 pub mod Ends
 pub mod Box
 pub mod Laws
+pub mod OneAnswer
 pub mod Schemas
 pub mod Glue
 pub mod Repeats
