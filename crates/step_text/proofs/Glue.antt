@@ -53,7 +53,7 @@ runs_more ls l q h =
     ap (run_on (Some start)) (map-last ls l) ∙ run_on-append (Some start) (map symbol_of ls) (symbol_of l ∷ [])
     ∙ ap (λ o. run_on o (symbol_of l ∷ [])) h ∙ run_on-nil (step q (symbol_of l))
 
-reads_more : (s : List ℕ) (from at : ℕ) (ls : List Lexeme) (t : Token) → Reads s from ls at → IsNext s at (Got t) → Reads s from (ls ++ lexeme_of s t ∷ []) t.end
+pub reads_more : (s : List ℕ) (from at : ℕ) (ls : List Lexeme) (t : Token) → Reads s from ls at → IsNext s at (Got t) → Reads s from (ls ++ lexeme_of s t ∷ []) t.end
 reads_more s from at [] t h next = (t, subst (λ n. IsNext s n (Got t)) (sym h) next, refl, refl)
 reads_more s from at (l ∷ ls) t h next = (h.0, h.1, h.2, reads_more s h.0.end at ls t h.3 next)
 

@@ -9,6 +9,7 @@ pub mod Whole
 pub mod Ends
 pub mod Box
 pub mod Laws
+pub mod Prints
 pub mod OneAnswer
 pub mod Schemas
 pub mod Glue

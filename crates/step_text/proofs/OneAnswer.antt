@@ -13,6 +13,7 @@ use Rattle.spec_step.specs.declared.fault.StepFault.TheVariants.{Syntax, Nested,
 use Rattle.step_grammar.specs.Places.{State}
 use Rattle.step_grammar.specs.Runs.{runs, whole}
 use Rattle.step_text.specs.Answers.{IsCauseOrWant, IsOkOrWant, IsFaultOrWant}
+use Rattle.std.proofs.Math.Logic.{∥∥₁_elim}
 use Rattle.step_text.proofs.Unique.{one_next}
 use Rattle.step_text.proofs.Laws.{complete}
 
@@ -74,3 +75,26 @@ pub refuses_error : {T : Type 0} (s : List ℕ) (r : Result T StepFault) (f : St
     → IsErrAnd r (λ e. e ≡ f) → IsCauseOrWant s f → (g : StepFault) → IsCause s g → IsFaultOrWant r g
 refuses_error s (Ok t) f e c g k = absurd e
 refuses_error s (Err x) f e c g k = refuses_fault s x (subst (IsCauseOrWant s) (sym e) c) g k
+
+bad_or_end : (s : List ℕ) (at p : ℕ) → IsNext s at (Bad p) → IsNext s at End → ⊥
+bad_or_end s at p h k = let e : Bad p ≡ End = one_next s at (Bad p) End h k in cc
+
+bad_or_got : (s : List ℕ) (at p : ℕ) (t : Token) → IsNext s at (Bad p) → IsNext s at (Got t) → ⊥
+bad_or_got s at p t h k = let e : Bad p ≡ Got t = one_next s at (Bad p) (Got t) h k in cc
+
+-- behind the front of a text of tokens stands no byte at which none begins
+not_bad : (s : List ℕ) (from at to p : ℕ) (ls ms : List Lexeme) → Reads s from ls at → IsNext s at (Bad p) → Reads s from ms to → IsNext s to End → ⊥
+not_bad s from at to p [] [] h b k e = bad_or_end s at p b (subst (λ n. IsNext s n End) (sym k ∙ h) e)
+not_bad s from at to p [] (m ∷ ms) h b k e = bad_or_got s at p k.0 b (subst (λ n. IsNext s n (Got k.0)) h k.1)
+not_bad s from at to p (l ∷ ls) [] h b k e = got_or_end s from h.0 h.1 (subst (λ n. IsNext s n End) (sym k) e)
+not_bad s from at to p (l ∷ ls) (m ∷ ms) h b k e =
+    let same : k.0 ≡ h.0 = one_got s from k.0 h.0 k.1 h.1 in
+    not_bad s h.0.end at to p ls ms h.3 b (subst (λ (t : Token). Reads s t.end ms to) same k.3) e
+
+-- where a file has no token more, it ends
+pub ends_here : (s : List ℕ) (at : ℕ) (step : TokenStep) (ls : List Lexeme) (h : List Entry) (i : List Instance) → IsNext s at step → ((t : Token) → step ≡ Got t → ⊥)
+    → ∥ IsFile s h i ∥₁ → Reads s 0 ls at → IsNext s at End
+ends_here s at (Got t) ls h i next other given r = absurd (other t refl)
+ends_here s at (Bad p) ls h i next other given r =
+    absurd (∥∥₁_elim given (λ a b. absurd a) (λ f. not_bad s 0 at f.tokens.0 p ls f.lexemes r next f.tokens.1 f.tokens.2))
+ends_here s at End ls h i next other given r = next

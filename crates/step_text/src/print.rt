@@ -28,7 +28,7 @@ fn put_token(page: &mut Vec<u8>, kind: TokenKind, text: &[u8]) -> Result<(), All
 /// keywords in capitals, and a line feed behind each semicolon.
 pub fn print_file(alloc: Global, file: &StepFile<'_>) -> Result<Vec<u8>, AllocError>
     ensures canonical { IfOk result (λ page. IsCanonical file.now.source.now page.items) }
-    ensures same { IfOk result (λ page. IsReprint file.now.source.now file.now.head file.now.instances page.items) }
+    ensures same { IfOk result (λ page. ∥ IsReprint file.now.source.now file.now.head file.now.instances page.items ∥₁) }
     ensures again { IfOk result (λ page. IsCanonical page.items page.items) }
 {
     let mut page = Vec::new(alloc);

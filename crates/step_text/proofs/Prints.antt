@@ -1,0 +1,56 @@
+-- The canonical spelling grows by a token.
+use Rattle.std.proofs.Common.{◌≡◌, ℕ, ◌+◌, ◌<◌, ◌≤◌, List, [], ◌∷◌, ◌++◌, refl, sym, ◌∙◌, ap, arith, subst, Bool, true, ◌&&◌, ◌||◌, append_assoc, append-nil}
+use Rattle.spec_step.specs.Gaps.{IsNext}
+use Rattle.spec_step.specs.Lexemes.{Lexeme, lexeme_of, Reads, HasTokens}
+use Rattle.spec_step.specs.Canonical.{printed, line_end, canonical, IsCanonical, IsReprint}
+use Rattle.spec_step.specs.Files.{IsFile, is_mark_kind}
+use Rattle.std.proofs.Math.Logic.{∥∥₁_elim, ∥∥₁_map}
+use mathlib.Core.Bool.{Bool-set}
+use Rattle.spec_step.specs.declared.token.Token.{Token}
+use Rattle.spec_step.specs.declared.token.TokenStep.{TokenStep}
+use Rattle.spec_step.specs.declared.token.TokenStep.TheVariants.{Got, Bad, End}
+use Rattle.spec_step.specs.declared.tree.Entry.{Entry}
+use Rattle.spec_step.specs.declared.tree.Instance.{Instance}
+use Rattle.step_text.specs.Printing.{printed_token}
+use Rattle.step_text.proofs.Glue.{reads_more}
+
+canonical_more : (ls : List Lexeme) (l : Lexeme) → canonical (ls ++ l ∷ []) ≡ canonical ls ++ (printed l ++ line_end l)
+canonical_more [] l = append-nil (printed l ++ line_end l)
+canonical_more (x ∷ ls) l = ap (λ t. (printed x ++ line_end x) ++ t) (canonical_more ls l) ∙ sym (append_assoc (printed x ++ line_end x) (canonical ls) (printed l ++ line_end l))
+
+-- the tokens from 0 to this place, and their canonical spelling
+abbrev pub Printed : List ℕ → ℕ → List ℕ → Type 0
+Printed s at page = (ls : List Lexeme) × Reads s 0 ls at × (page ≡ canonical ls)
+
+pub printed_more : (s : List ℕ) (at : ℕ) (t : Token) (old new text : List ℕ) → Printed s at old → IsNext s at (Got t) → text ≡ (lexeme_of s t).text
+    → new ≡ old ++ printed_token t.kind text → Printed s t.end new
+printed_more s at t old new text h next is e =
+    let l = lexeme_of s t in (
+    h.0 ++ l ∷ [],
+    reads_more s 0 at h.0 t h.1 next,
+    e ∙ ap (λ x. old ++ printed_token t.kind x) is ∙ ap (λ x. x ++ (printed l ++ line_end l)) h.2 ∙ sym (canonical_more h.0 l))
+
+-- the printed text of a file, read again: the same trees
+pub reprint : (s : List ℕ) (head : List Entry) (instances : List Instance) (ls : List Lexeme) → HasTokens s ls → IsFile s head instances → IsReprint s head instances (canonical ls)
+reprint s head instances ls h f = ?
+
+-- behind each token but a mark stands a mark: then the printed tokens stay apart
+abbrev pub is_apart : List Lexeme → Bool
+is_apart [] = true
+is_apart (l ∷ []) = is_mark_kind l.kind
+is_apart (l ∷ m ∷ ls) = (is_mark_kind l.kind || is_mark_kind m.kind) && is_apart (m ∷ ls)
+
+pub file_apart : (s : List ℕ) (head : List Entry) (instances : List Instance) (ls : List Lexeme) → HasTokens s ls → IsFile s head instances → is_apart ls ≡ true
+file_apart s head instances ls h f = ?
+
+-- tokens that stand apart are printed as a text that is its own canonical spelling
+pub canonical_again : (s : List ℕ) (ls : List Lexeme) → HasTokens s ls → is_apart ls ≡ true → IsCanonical (canonical ls) (canonical ls)
+canonical_again s ls h apart = ?
+
+pub print_again : (s : List ℕ) (head : List Entry) (instances : List Instance) (page : List ℕ) → ∥ IsFile s head instances ∥₁ → IsCanonical s page → IsCanonical page page
+print_again s head instances page given c =
+    let apart : is_apart c.0 ≡ true = ∥∥₁_elim given (Bool-set _ _) (λ f. file_apart s head instances c.0 c.1 f) in
+    subst (λ x. IsCanonical x x) (sym c.2) (canonical_again s c.0 c.1 apart)
+
+pub print_same : (s : List ℕ) (head : List Entry) (instances : List Instance) (page : List ℕ) → ∥ IsFile s head instances ∥₁ → IsCanonical s page → ∥ IsReprint s head instances page ∥₁
+print_same s head instances page given c = ∥∥₁_map given (λ f. subst (IsReprint s head instances) (sym c.2) (reprint s head instances c.0 c.1 f))
