@@ -1,6 +1,6 @@
 -- The canonical spelling of a text: its tokens in their order with no blanks and comments, keywords in capitals, and a
 -- line feed behind each semicolon.
-use Rattle.std.specs.Prelude.{◌≡◌, ℕ, List, [], ◌∷◌, ◌++◌, map, codes, if◌then◌else◌, All}
+use Rattle.std.specs.Prelude.{◌≡◌, ℕ, List, [], ◌++◌, map, codes, if◌then◌else◌, All}
 use Rattle.std.specs.List.{flat_map}
 use Rattle.std.specs.Str.{str_to_ascii_uppercase}
 use Rattle.spec_step.specs.Form.{is_keyword}

@@ -1,11 +1,11 @@
 -- Files, and where and why a text is none.
-use Rattle.std.specs.Prelude.{◌≡◌, ◌≢◌, ℕ, ◌+◌, ◌-◌, ◌≤◌, Bool, true, false, ◌&&◌, List, [], ◌∷◌, ◌++◌, map, codes, All, AllPairs, if◌then◌else◌}
+use Rattle.std.specs.Prelude.{◌≡◌, ◌≢◌, ℕ, ◌+◌, ◌-◌, ◌≤◌, Bool, true, false, ◌&&◌, List, [], ◌∷◌, ◌++◌, codes, All, AllPairs, if◌then◌else◌}
 use Rattle.std.specs.List.{Contains}
 use Rattle.std.specs.Str.{str_eq_ignore_ascii_case, bytes_eq}
 use Rattle.spec_step.specs.Gaps.{IsNext}
 use Rattle.spec_step.specs.Form.{place_of}
 use Rattle.spec_step.specs.Lexemes.{Lexeme, lexeme_of, IsToken, Reads, HasTokens}
-use Rattle.spec_step.specs.Grammar.{IsDerived, IsAs, opening, closing}
+use Rattle.spec_step.specs.Grammar.{IsDerived}
 use Rattle.spec_step.specs.Spans.{bytes_at}
 use Rattle.spec_step.specs.declared.token.Token.{Token}
 use Rattle.spec_step.specs.declared.token.Span.{Span}

@@ -1,5 +1,5 @@
 -- The grammar of a file (ISO 10303-21, one DATA section): which tokens spell which head entries and instances.
-use Rattle.std.specs.Prelude.{◌≡◌, ℕ, Bool, List, [], ◌∷◌, ◌++◌, map, drop, codes, true, false, All, IsTrue}
+use Rattle.std.specs.Prelude.{◌≡◌, ℕ, Bool, List, [], ◌∷◌, ◌++◌, map, drop, codes, true, false, All}
 use Rattle.std.specs.List.{AllZip, flat_map}
 use Rattle.std.specs.Str.{str_eq_ignore_ascii_case}
 use Rattle.spec_num.specs.Decimals.{value}

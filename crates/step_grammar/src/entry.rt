@@ -142,11 +142,7 @@ fn step_typed(
 }
 
 /// A closing parenthesis behind a parameter.
-fn close(
-    alloc: Global,
-    param: Param,
-    frames: &mut Vec<Frame>,
-) -> Result<Option<Spot>, AllocError>
+fn close(alloc: Global, param: Param, frames: &mut Vec<Frame>) -> Result<Option<Spot>, AllocError>
     ensures { IfOk result (λ spot. at spot (reverse frames.new.items) ≡ step_behind param (reverse frames.old.items) Symbol.Close) }
 {
     match frames.pop() {

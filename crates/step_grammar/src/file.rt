@@ -45,10 +45,7 @@ fn step_fixed(fixed: Fixed, symbol: Symbol) -> Option<Place>
         ),
         Fixed::HeaderStart => place_if(is_semicolon(symbol), Place::Head),
         Fixed::HeaderEnd => place_if(is_semicolon(symbol), Place::Fixed(Fixed::Data)),
-        Fixed::Data => place_if(
-            is_name(symbol, Name::Data),
-            Place::Fixed(Fixed::DataStart),
-        ),
+        Fixed::Data => place_if(is_name(symbol, Name::Data), Place::Fixed(Fixed::DataStart)),
         Fixed::DataStart => place_if(is_semicolon(symbol), Place::Instances),
         Fixed::DataEnd => place_if(is_semicolon(symbol), Place::Fixed(Fixed::EndWord)),
         Fixed::EndWord => place_if(

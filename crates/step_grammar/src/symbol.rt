@@ -33,15 +33,10 @@ pub enum Symbol {
     EndWord,
     Keyword(Span, Name),
     /// a number, and where it begins
-    Number {
-        number: u64,
-        from: usize,
-    },
+    Number { number: u64, from: usize },
     Atom(Atom),
     /// a semicolon, and where it ends
-    Semicolon {
-        end: usize,
-    },
+    Semicolon { end: usize },
     Equals,
     Open,
     Close,

@@ -31,21 +31,8 @@ use Rattle.std.proofs.Common.{Result, Ok, Err, IfOk, IfErr, IsErrAnd}
 use Rattle.step_text.specs.Reading.{IsWhole, IsUnfinished}
 use Rattle.step_text.specs.declared.read.Trees.{Trees}
 use Rattle.step_grammar.specs.declared.place.Place.{Place}
+use Rattle.step_text.proofs.Runs.{run_on-append, run_on-nil, map-last}
 use Rattle.step_text.proofs.Laws.{sound, complete, begins, no_begin, depth, place_whole}
-
--- a run over two lists of tokens, one after the other
-run_on-append : (o : Option State) (xs ys : List Symbol) → run_on o (xs ++ ys) ≡ run_on (run_on o xs) ys
-run_on-append None xs ys = refl
-run_on-append (Some p) [] ys = refl
-run_on-append (Some p) (x ∷ xs) ys = run_on-append (step p x) xs ys
-
-run_on-nil : (o : Option State) → run_on o [] ≡ o
-run_on-nil None = refl
-run_on-nil (Some q) = refl
-
-map-last : (ls : List Lexeme) (l : Lexeme) → map symbol_of (ls ++ l ∷ []) ≡ map symbol_of ls ++ symbol_of l ∷ []
-map-last [] l = refl
-map-last (x ∷ ls) l = ap (λ xs. symbol_of x ∷ xs) (map-last ls l)
 
 -- one token more
 pub runs_more : (ls : List Lexeme) (l : Lexeme) (q : State) → runs ls ≡ Some q → runs (ls ++ l ∷ []) ≡ step q (symbol_of l)

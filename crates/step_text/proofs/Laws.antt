@@ -1,11 +1,13 @@
 -- The laws of the machine of places, over tokens with their bytes.
-use Rattle.std.proofs.Common.{◌≡◌, ℕ, ◌+◌, ◌≤◌, List, [], ◌∷◌, ◌++◌, Option, Some, None, All}
+use Rattle.std.proofs.Common.{◌≡◌, ℕ, ◌+◌, ◌≤◌, List, [], ◌∷◌, ◌++◌, Option, Some, None, All, map, sym, ◌∙◌, ap}
 use Rattle.spec_step.specs.Lexemes.{Lexeme, IsToken}
 use Rattle.spec_step.specs.Grammar.{IsDerived}
 use Rattle.spec_step.specs.Files.{BeginsFile, open_behind}
 use Rattle.spec_step.specs.declared.tree.Entry.{Entry}
 use Rattle.spec_step.specs.declared.tree.Instance.{Instance}
-use Rattle.step_grammar.specs.Places.{State, open_at}
+use Rattle.step_grammar.specs.Symbols.{symbol_of}
+use Rattle.step_grammar.specs.Places.{State, open_at, run_on}
+use Rattle.step_text.proofs.Runs.{runs_both, none_goes_on}
 use Rattle.step_grammar.specs.Runs.{runs, whole}
 
 -- what was read behind the last semicolon are the trees of the tokens
@@ -22,7 +24,9 @@ begins ls q are h = ?
 
 -- no other tokens begin one
 pub no_begin : (ls : List Lexeme) → runs ls ≡ None → BeginsFile ls → ⊥
-no_begin ls h b = ?
+no_begin ls h b =
+    none_goes_on (map symbol_of b.more) (whole b.head b.instances)
+    (ap (λ o. run_on o (map symbol_of b.more)) (sym h) ∙ sym (runs_both ls b.more) ∙ complete (ls ++ b.more) b.head b.instances b.derived)
 
 -- the machine counts the parentheses that stand open
 pub depth : (ls : List Lexeme) (q : State) → All IsToken ls → runs ls ≡ Some q → open_behind 0 ls ≡ open_at q

@@ -8,6 +8,7 @@ pub mod Forms
 pub mod Whole
 pub mod Ends
 pub mod Box
+pub mod Runs
 pub mod Laws
 pub mod Prints
 pub mod OneAnswer

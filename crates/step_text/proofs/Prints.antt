@@ -26,9 +26,10 @@ pub printed_more : (s : List ℕ) (at : ℕ) (t : Token) (old new text : List �
     → new ≡ old ++ printed_token t.kind text → Printed s t.end new
 printed_more s at t old new text h next is e =
     let l = lexeme_of s t in (
-    h.0 ++ l ∷ [],
-    reads_more s 0 at h.0 t h.1 next,
-    e ∙ ap (λ x. old ++ printed_token t.kind x) is ∙ ap (λ x. x ++ (printed l ++ line_end l)) h.2 ∙ sym (canonical_more h.0 l))
+      h.0 ++ l ∷ [],
+      reads_more s 0 at h.0 t h.1 next,
+      e ∙ ap (λ x. old ++ printed_token t.kind x) is ∙ ap (λ x. x ++ (printed l ++ line_end l)) h.2 ∙ sym (canonical_more h.0 l),
+    )
 
 -- the printed text of a file, read again: the same trees
 pub reprint : (s : List ℕ) (head : List Entry) (instances : List Instance) (ls : List Lexeme) → HasTokens s ls → IsFile s head instances → IsReprint s head instances (canonical ls)

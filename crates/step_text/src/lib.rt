@@ -20,9 +20,7 @@ pub use next::next_token;
 pub use parse::parse_file;
 pub use plain::{Plain, PlainFault, plain_file};
 pub use print::print_file;
-pub use spec_step::{
-    Body, Entry, Instance, Param, Span, StepFault, Token, TokenKind, TokenStep,
-};
+pub use spec_step::{Body, Entry, Instance, Param, Span, StepFault, Token, TokenKind, TokenStep};
 
 #[cfg(test)]
 mod tests;

@@ -139,11 +139,13 @@ fn answer(alloc: Global, text: &str) -> Result<String, AllocError> {
         Err(StepFault::Syntax { at }) => format!(in alloc; "Syntax {at}"),
         Err(StepFault::Nested { at }) => format!(in alloc; "Nested {at}"),
         Err(StepFault::Schema) => String::from_str(alloc, "Schema"),
-        Err(StepFault::DuplicateNumber {
-            number,
-            first,
-            second,
-        }) => format!(in alloc; "DuplicateNumber {number} {first} {second}"),
+        Err(
+            StepFault::DuplicateNumber {
+                number,
+                first,
+                second,
+            },
+        ) => format!(in alloc; "DuplicateNumber {number} {first} {second}"),
         Err(StepFault::NoMemory) => String::from_str(alloc, "NoMemory"),
     }
 }
@@ -234,7 +236,8 @@ fn prints_what_it_reads(rt: HostRuntime) -> Result<(), Fail> {
         Ok(file) => print_file(rt.alloc(), &file)?,
         Err(_) => Vec::new(rt.alloc()),
     };
-    let want = "ISO-10303-21;\nHEADER;\nFILE_SCHEMA(('IFC4'));\nENDSEC;\nDATA;\n#01=IFCA(1.e5,'a b',.t.);\nENDSEC;\nEND-ISO-10303-21;\n";
+    let want =
+        "ISO-10303-21;\nHEADER;\nFILE_SCHEMA(('IFC4'));\nENDSEC;\nDATA;\n#01=IFCA(1.e5,'a b',.t.);\nENDSEC;\nEND-ISO-10303-21;\n";
     assert_eq!(rt; page.as_slice(), want.as_bytes());
     let again = match parse_file(rt.alloc(), page.as_slice()) {
         Ok(file) => print_file(rt.alloc(), &file)?,

@@ -18,7 +18,7 @@ pub loop-digit-preserved : goal.loop-digit-preserved
 loop-digit-preserved c =
     let digit = c.requires.digits c.loop-digit.digit-index (omega arith) in
     record {
-      is = ap (λ n. n * 10 + c.from.result) c.loop-digit.invariant.is 
+      is = ap (λ n. n * 10 + c.from.result) c.loop-digit.invariant.is
           ∙ ap (λ d. value (take c.loop-digit.digit-index c.args.digits.now) * 10 + d) c.from.ensures
           ∙ sym (value_more c.args.digits.now c.loop-digit.digit-index c.loop-digit-test.true);
       small = below_power c.loop-digit.number c.loop-digit.digit-index c.from.result c.loop-digit.invariant.small (omega (arith, digit));
