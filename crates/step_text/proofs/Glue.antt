@@ -44,7 +44,7 @@ pub reads_more : (s : List ℕ) (from at : ℕ) (ls : List Lexeme) (t : Token) �
 reads_more s from at [] t h next = (t, subst (λ n. IsNext s n (Got t)) (sym h) next, refl, refl)
 reads_more s from at (l ∷ ls) t h next = (h.0, h.1, h.2, reads_more s h.0.end at ls t h.3 next)
 
-token_kind : (s : List ℕ) (at : ℕ) (t : Token) → IsNext s at (Got t) → IsToken (lexeme_of s t)
+pub token_kind : (s : List ℕ) (at : ℕ) (t : Token) → IsNext s at (Got t) → IsToken (lexeme_of s t)
 token_kind s at t next = next.2.token
 
 -- with nothing read the state is that before the first token
@@ -54,7 +54,7 @@ start_state p f h i =
     ap (λ x. made x p.head p.instances) f ∙ ap (λ y. made [] y p.instances) h ∙ ap (λ z. made [] [] z) i
 
 -- what is read are tokens
-reads_tokens : (s : List ℕ) (from at : ℕ) (ls : List Lexeme) → Reads s from ls at → All IsToken ls
+pub reads_tokens : (s : List ℕ) (from at : ℕ) (ls : List Lexeme) → Reads s from ls at → All IsToken ls
 reads_tokens s from at [] h = λ k d lt. absurd (omega arith)
 reads_tokens s from at (l ∷ ls) h =
     All-cons IsToken l ls (subst IsToken (sym h.2) (token_kind s from h.0 h.1)) (reads_tokens s h.0.end at ls h.3)
@@ -102,7 +102,7 @@ open_more ls l h k =
     let last : open_behind 0 (ls ++ l ∷ []) ≡ open_after (open_behind 0 ls) l = open_behind-append 0 ls (l ∷ []) in
     omega (arith, open_after_le (open_behind 0 ls) l)
 
-shallow_end : (ls : List Lexeme) → IsShallow ls → open_behind 0 ls ≤ 32
+pub shallow_end : (ls : List Lexeme) → IsShallow ls → open_behind 0 ls ≤ 32
 shallow_end ls h = h ls [] (sym (append-nil ls))
 
 nothing_shallow : IsShallow []

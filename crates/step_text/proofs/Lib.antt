@@ -11,6 +11,7 @@ pub mod Box
 pub mod Runs
 pub mod Laws
 pub mod Prints
+pub mod Fronts
 pub mod OneAnswer
 pub mod Schemas
 pub mod Glue

@@ -1,8 +1,10 @@
 -- A text has one answer: it is accepted with one pair of lists, or refused with one cause.
-use Rattle.std.proofs.Common.{◌≡◌, ℕ, ◌+◌, ◌<◌, ◌≤◌, List, [], ◌∷◌, ◌++◌, Option, Some, None, Result, Ok, Err, IfErr, IsErrAnd, All, refl, sym, ◌∙◌, ap, arith, subst, inl, inr, ◌⊎◌}
+use Rattle.std.proofs.Common.{◌≡◌, ℕ, ◌+◌, ◌<◌, ◌≤◌, List, [], ◌∷◌, ◌++◌, Option, Some, None, Result, Ok, Err, IfErr, IsErrAnd, All, append-nil, refl, sym, ◌∙◌, ap, arith, subst, inl, inr, ◌⊎◌}
 use Rattle.spec_step.specs.Gaps.{IsNext}
 use Rattle.spec_step.specs.Lexemes.{Lexeme, lexeme_of, IsToken, Reads, HasTokens}
-use Rattle.spec_step.specs.Files.{IsFile, IsAccepted, IsCause, NamesSchema, HasDistinctNumbers, RepeatsFirst, HasSyntaxFault, HasNestedFault, LacksSchema, HasDuplicate}
+use Rattle.spec_step.specs.Grammar.{IsDerived}
+use Rattle.spec_step.specs.Form.{place_of}
+use Rattle.spec_step.specs.Files.{IsFile, IsAccepted, IsCause, NamesSchema, HasDistinctNumbers, RepeatsFirst, BeginsFile, BreaksOff, IsShallow, HasSyntaxFault, HasNestedFault, LacksSchema, HasDuplicate}
 use Rattle.spec_step.specs.declared.token.Token.{Token}
 use Rattle.spec_step.specs.declared.token.TokenStep.{TokenStep}
 use Rattle.spec_step.specs.declared.token.TokenStep.TheVariants.{Got, Bad, End}
@@ -14,14 +16,12 @@ use Rattle.step_grammar.specs.Places.{State}
 use Rattle.step_grammar.specs.Runs.{runs, whole}
 use Rattle.step_text.specs.Answers.{IsCauseOrWant, IsOkOrWant, IsFaultOrWant}
 use Rattle.std.proofs.Math.Logic.{∥∥₁_elim}
+use Rattle.std.proofs.lemmas.List.Elements.{All-nil}
 use Rattle.step_text.proofs.Unique.{one_next}
 use Rattle.step_text.proofs.Laws.{complete}
-
-one_got : (s : List ℕ) (at : ℕ) (t u : Token) → IsNext s at (Got t) → IsNext s at (Got u) → t ≡ u
-one_got s at t u p q = let e : Got t ≡ Got u = one_next s at (Got t) (Got u) p q in cc
-
-got_or_end : (s : List ℕ) (at : ℕ) (t : Token) → IsNext s at (Got t) → IsNext s at End → ⊥
-got_or_end s at t p q = let e : Got t ≡ End = one_next s at (Got t) End p q in cc
+use Rattle.step_text.proofs.Fronts.{one_got, got_or_end, GoesOn, Fronts, fronts, begins_front, broken, too_deep}
+use Rattle.step_text.proofs.Glue.{reads_tokens, token_kind}
+use Rattle.step_text.proofs.Repeats.{one_repeat, no_repeat}
 
 -- the tokens from a place to the end of a text are one list
 one_rest : (s : List ℕ) (at : ℕ) (ls ms : List Lexeme) (to end : ℕ) → Reads s at ls to → IsNext s to End → Reads s at ms end → IsNext s end End → ls ≡ ms
@@ -47,13 +47,105 @@ one_file s h g i j p q =
     let same : p.lexemes ≡ q.lexemes = one_text s p.lexemes q.lexemes p.tokens q.tokens in
     same_trees h g i j (sym (complete p.lexemes h i p.derived) ∙ ap runs same ∙ complete q.lexemes g j q.derived)
 
+-- Two faults of one text are one.
+
+syntax_once : (s : List ℕ) (p q : ℕ) (f : HasSyntaxFault s p) (g : HasSyntaxFault s q) → Fronts s f.before f.to g.before g.to → p ≡ q
+syntax_once s p q f g (inl same) =
+    let there : IsNext s f.to g.step = subst (λ n. IsNext s n g.step) (sym same.1) g.next in
+    f.place ∙ ap (place_of s) (one_next s f.to f.step g.step f.next there) ∙ sym g.place
+syntax_once s p q f g (inr (inl on)) = absurd (broken s g.before g.to f.before f.to g.step on g.next g.breaks f.begins)
+syntax_once s p q f g (inr (inr on)) = absurd (broken s f.before f.to g.before g.to f.step on f.next f.breaks g.begins)
+
+nested_begins : (s : List ℕ) (q : ℕ) (g : HasNestedFault s q) → BeginsFile g.before
+nested_begins s q g =
+    begins_front g.before (lexeme_of s g.token ∷ []) (reads_tokens s g.to g.token.end (lexeme_of s g.token ∷ []) (g.token, g.next, refl, refl)) g.begins
+
+syntax_or_nested : (s : List ℕ) (p q : ℕ) (f : HasSyntaxFault s p) (g : HasNestedFault s q) → Fronts s f.before f.to g.before g.to → ⊥
+syntax_or_nested s p q f g (inl same) =
+    let there : IsNext s f.to (Got g.token) = subst (λ n. IsNext s n (Got g.token)) (sym same.1) g.next in
+    let breaks : BreaksOff s f.before (Got g.token) = subst (BreaksOff s f.before) (one_next s f.to f.step (Got g.token) f.next there) f.breaks in
+    breaks (subst (λ (ls : List Lexeme). BeginsFile (ls ++ lexeme_of s g.token ∷ [])) (sym same.0) g.begins)
+syntax_or_nested s p q f g (inr (inl on)) = too_deep s g.before g.to f.before f.to g.token on g.next g.deep f.shallow
+syntax_or_nested s p q f g (inr (inr on)) = broken s f.before f.to g.before g.to f.step on f.next f.breaks (nested_begins s q g)
+
+nested_once : (s : List ℕ) (p q : ℕ) (f : HasNestedFault s p) (g : HasNestedFault s q) → Fronts s f.before f.to g.before g.to → p ≡ q
+nested_once s p q f g (inl same) =
+    let there : IsNext s f.to (Got g.token) = subst (λ n. IsNext s n (Got g.token)) (sym same.1) g.next in
+    f.place ∙ ap (λ (t : Token). t.from) (one_got s f.to f.token g.token f.next there) ∙ sym g.place
+nested_once s p q f g (inr (inl on)) = absurd (too_deep s g.before g.to f.before f.to g.token on g.next g.deep f.shallow)
+nested_once s p q f g (inr (inr on)) = absurd (too_deep s f.before f.to g.before g.to f.token on f.next f.deep g.shallow)
+
+file_begins : (ls : List Lexeme) (h : List Entry) (i : List Instance) → IsDerived ls h i → BeginsFile ls
+file_begins ls h i d = record {
+  more = [];
+  head = h;
+  instances = i;
+  tokens = All-nil IsToken;
+  derived = subst (λ l. IsDerived l h i) (sym (append-nil ls)) d;
+}
+
+-- and a file has none
+
+file_or_syntax : (s : List ℕ) (h : List Entry) (i : List Instance) (p : ℕ) (a : IsFile s h i) (f : HasSyntaxFault s p) → Fronts s f.before f.to a.lexemes a.tokens.0 → ⊥
+file_or_syntax s h i p a f (inl same) =
+    let there : IsNext s f.to End = subst (λ n. IsNext s n End) (sym same.1) a.tokens.2 in
+    let breaks : BreaksOff s f.before End = subst (BreaksOff s f.before) (one_next s f.to f.step End f.next there) f.breaks in
+    breaks h i (subst (λ l. IsDerived l h i) (sym same.0) a.derived)
+file_or_syntax s h i p a f (inr (inl on)) = got_or_end s a.tokens.0 on.token on.next a.tokens.2
+file_or_syntax s h i p a f (inr (inr on)) = broken s f.before f.to a.lexemes a.tokens.0 f.step on f.next f.breaks (file_begins a.lexemes h i a.derived)
+
+file_or_nested : (s : List ℕ) (h : List Entry) (i : List Instance) (p : ℕ) (a : IsFile s h i) (f : HasNestedFault s p) → Fronts s f.before f.to a.lexemes a.tokens.0 → ⊥
+file_or_nested s h i p a f (inl same) = got_or_end s f.to f.token f.next (subst (λ n. IsNext s n End) (sym same.1) a.tokens.2)
+file_or_nested s h i p a f (inr (inl on)) = got_or_end s a.tokens.0 on.token on.next a.tokens.2
+file_or_nested s h i p a f (inr (inr on)) = too_deep s f.before f.to a.lexemes a.tokens.0 f.token on f.next f.deep a.shallow
+
+no_syntax : (s : List ℕ) (h : List Entry) (i : List Instance) (p : ℕ) → IsFile s h i → HasSyntaxFault s p → ⊥
+no_syntax s h i p a f = file_or_syntax s h i p a f (fronts s 0 f.before a.lexemes f.to a.tokens.0 f.tokens a.tokens.1)
+
+no_nested : (s : List ℕ) (h : List Entry) (i : List Instance) (p : ℕ) → IsFile s h i → HasNestedFault s p → ⊥
+no_nested s h i p a f = file_or_nested s h i p a f (fronts s 0 f.before a.lexemes f.to a.tokens.0 f.tokens a.tokens.1)
+
+-- a file lacks no schema that it names
+no_lack : (s : List ℕ) (h : List Entry) (i : List Instance) → IsFile s h i → NamesSchema s h → LacksSchema s → ⊥
+no_lack s h i a names l = l.lacks (subst (NamesSchema s) (one_file s h l.head i l.instances a l.file).0 names)
+
+same_repeat : (n a b m c e : ℕ) → (n ≡ m) × (a ≡ c) × (b ≡ e) → DuplicateNumber n a b ≡ DuplicateNumber m c e
+same_repeat n a b m c e h = let x : n ≡ m = h.0 in let y : a ≡ c = h.1 in let z : b ≡ e = h.2 in cc
+
+duplicate_once : (s : List ℕ) (n a b m c e : ℕ) → HasDuplicate s n a b → HasDuplicate s m c e → DuplicateNumber n a b ≡ DuplicateNumber m c e
+duplicate_once s n a b m c e f g =
+    let instances : f.instances ≡ g.instances = (one_file s f.head g.head f.instances g.instances f.file g.file).1 in
+    same_repeat n a b m c e (one_repeat f.instances n a b m c e f.repeats (subst (λ is. RepeatsFirst is m c e) (sym instances) g.repeats))
+
 -- a text is refused with one cause
 pub one_cause : (s : List ℕ) (f g : StepFault) → IsCause s f → IsCause s g → f ≡ g
-one_cause s f g h k = ?
+one_cause s (Syntax p) (Syntax q) h k = ap Syntax (syntax_once s p q h k (fronts s 0 h.before k.before h.to k.to h.tokens k.tokens))
+one_cause s (Syntax p) (Nested q) h k = absurd (syntax_or_nested s p q h k (fronts s 0 h.before k.before h.to k.to h.tokens k.tokens))
+one_cause s (Syntax p) Schema h k = absurd (no_syntax s k.head k.instances p k.file h)
+one_cause s (Syntax p) (DuplicateNumber m c e) h k = absurd (no_syntax s k.head k.instances p k.file h)
+one_cause s (Nested p) (Syntax q) h k = absurd (syntax_or_nested s q p k h (fronts s 0 k.before h.before k.to h.to k.tokens h.tokens))
+one_cause s (Nested p) (Nested q) h k = ap Nested (nested_once s p q h k (fronts s 0 h.before k.before h.to k.to h.tokens k.tokens))
+one_cause s (Nested p) Schema h k = absurd (no_nested s k.head k.instances p k.file h)
+one_cause s (Nested p) (DuplicateNumber m c e) h k = absurd (no_nested s k.head k.instances p k.file h)
+one_cause s Schema (Syntax q) h k = absurd (no_syntax s h.head h.instances q h.file k)
+one_cause s Schema (Nested q) h k = absurd (no_nested s h.head h.instances q h.file k)
+one_cause s Schema Schema h k = refl
+one_cause s Schema (DuplicateNumber m c e) h k = absurd (no_lack s k.head k.instances k.file k.schema h)
+one_cause s (DuplicateNumber n a b) (Syntax q) h k = absurd (no_syntax s h.head h.instances q h.file k)
+one_cause s (DuplicateNumber n a b) (Nested q) h k = absurd (no_nested s h.head h.instances q h.file k)
+one_cause s (DuplicateNumber n a b) Schema h k = absurd (no_lack s h.head h.instances h.file h.schema k)
+one_cause s (DuplicateNumber n a b) (DuplicateNumber m c e) h k = duplicate_once s n a b m c e h k
+one_cause s NoMemory g h k = absurd h
+one_cause s f NoMemory h k = absurd k
 
 -- and with none where it is accepted
 pub no_cause : (s : List ℕ) (h : List Entry) (i : List Instance) (f : StepFault) → IsAccepted s h i → IsCause s f → ⊥
-no_cause s h i f a k = ?
+no_cause s h i (Syntax p) a k = no_syntax s h i p a.file k
+no_cause s h i (Nested p) a k = no_nested s h i p a.file k
+no_cause s h i Schema a k = no_lack s h i a.file a.schema k
+no_cause s h i (DuplicateNumber n first second) a k =
+    no_repeat i n first second a.distinct (subst (λ is. RepeatsFirst is n first second) (sym (one_file s h k.head i k.instances a.file k.file).1) k.repeats)
+no_cause s h i NoMemory a k = k
 
 -- the clauses on a fault, and on a file, from the cause that it has
 
