@@ -10,6 +10,7 @@ pub mod Ends
 pub mod Box
 pub mod Runs
 pub mod Laws
+pub mod Apart
 pub mod Prints
 pub mod Fronts
 pub mod OneAnswer

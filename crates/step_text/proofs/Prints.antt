@@ -13,6 +13,8 @@ use Rattle.spec_step.specs.declared.tree.Entry.{Entry}
 use Rattle.spec_step.specs.declared.tree.Instance.{Instance}
 use Rattle.step_text.specs.Printing.{printed_token}
 use Rattle.step_text.proofs.Glue.{reads_more}
+use Rattle.step_text.proofs.Apart.{is_apart, derived_apart}
+use Rattle.step_text.proofs.OneAnswer.{one_text}
 
 canonical_more : (ls : List Lexeme) (l : Lexeme) → canonical (ls ++ l ∷ []) ≡ canonical ls ++ (printed l ++ line_end l)
 canonical_more [] l = append-nil (printed l ++ line_end l)
@@ -35,14 +37,9 @@ printed_more s at t old new text h next is e =
 pub reprint : (s : List ℕ) (head : List Entry) (instances : List Instance) (ls : List Lexeme) → HasTokens s ls → IsFile s head instances → IsReprint s head instances (canonical ls)
 reprint s head instances ls h f = ?
 
--- behind each token but a mark stands a mark: then the printed tokens stay apart
-abbrev pub is_apart : List Lexeme → Bool
-is_apart [] = true
-is_apart (l ∷ []) = is_mark_kind l.kind
-is_apart (l ∷ m ∷ ls) = (is_mark_kind l.kind || is_mark_kind m.kind) && is_apart (m ∷ ls)
-
+-- the tokens of a file stand apart
 pub file_apart : (s : List ℕ) (head : List Entry) (instances : List Instance) (ls : List Lexeme) → HasTokens s ls → IsFile s head instances → is_apart ls ≡ true
-file_apart s head instances ls h f = ?
+file_apart s head instances ls h f = subst (λ l. is_apart l ≡ true) (one_text s f.lexemes ls f.tokens h) (derived_apart head instances f.lexemes f.derived.tokens)
 
 -- tokens that stand apart are printed as a text that is its own canonical spelling
 pub canonical_again : (s : List ℕ) (ls : List Lexeme) → HasTokens s ls → is_apart ls ≡ true → IsCanonical (canonical ls) (canonical ls)
