@@ -10,7 +10,10 @@ pub mod Ends
 pub mod Box
 pub mod Runs
 pub mod Laws
+pub mod Capitals
+pub mod Longer
 pub mod Apart
+pub mod Placed
 pub mod Prints
 pub mod Fronts
 pub mod OneAnswer

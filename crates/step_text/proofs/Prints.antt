@@ -1,7 +1,7 @@
 -- The canonical spelling grows by a token.
 use Rattle.std.proofs.Common.{◌≡◌, ℕ, ◌+◌, ◌<◌, ◌≤◌, List, [], ◌∷◌, ◌++◌, refl, sym, ◌∙◌, ap, arith, subst, Bool, true, ◌&&◌, ◌||◌, append_assoc, append-nil}
 use Rattle.spec_step.specs.Gaps.{IsNext}
-use Rattle.spec_step.specs.Lexemes.{Lexeme, lexeme_of, Reads, HasTokens}
+use Rattle.spec_step.specs.Lexemes.{Lexeme, lexeme_of, IsToken, Reads, HasTokens}
 use Rattle.spec_step.specs.Canonical.{printed, line_end, canonical, IsCanonical, IsReprint}
 use Rattle.spec_step.specs.Files.{IsFile, is_mark_kind}
 use Rattle.std.proofs.Math.Logic.{∥∥₁_elim, ∥∥₁_map}
@@ -12,9 +12,11 @@ use Rattle.spec_step.specs.declared.token.TokenStep.TheVariants.{Got, Bad, End}
 use Rattle.spec_step.specs.declared.tree.Entry.{Entry}
 use Rattle.spec_step.specs.declared.tree.Instance.{Instance}
 use Rattle.step_text.specs.Printing.{printed_token}
-use Rattle.step_text.proofs.Glue.{reads_more}
+use Rattle.step_text.proofs.Glue.{reads_more, reads_tokens}
 use Rattle.step_text.proofs.Apart.{is_apart, derived_apart}
 use Rattle.step_text.proofs.OneAnswer.{one_text}
+use Rattle.step_text.proofs.Placed.{placed, page_tokens, canonical_placed}
+use Rattle.std.proofs.lemmas.List.Elements.{recursion_from_All}
 
 canonical_more : (ls : List Lexeme) (l : Lexeme) → canonical (ls ++ l ∷ []) ≡ canonical ls ++ (printed l ++ line_end l)
 canonical_more [] l = append-nil (printed l ++ line_end l)
@@ -43,7 +45,8 @@ file_apart s head instances ls h f = subst (λ l. is_apart l ≡ true) (one_text
 
 -- tokens that stand apart are printed as a text that is its own canonical spelling
 pub canonical_again : (s : List ℕ) (ls : List Lexeme) → HasTokens s ls → is_apart ls ≡ true → IsCanonical (canonical ls) (canonical ls)
-canonical_again s ls h apart = ?
+canonical_again s ls h apart =
+    (placed 0 ls, page_tokens ls (recursion_from_All IsToken ls (reads_tokens s 0 h.0 ls h.1)) apart, sym (canonical_placed 0 ls))
 
 pub print_again : (s : List ℕ) (head : List Entry) (instances : List Instance) (page : List ℕ) → ∥ IsFile s head instances ∥₁ → IsCanonical s page → IsCanonical page page
 print_again s head instances page given c =
