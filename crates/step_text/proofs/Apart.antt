@@ -13,6 +13,7 @@ use Rattle.spec_step.specs.declared.tree.Entry.{Entry}
 use Rattle.spec_step.specs.declared.tree.Body.{Body}
 use Rattle.spec_step.specs.declared.tree.Body.TheVariants.{Simple, Complex}
 use Rattle.spec_step.specs.declared.tree.Instance.{Instance}
+use Rattle.step_text.proofs.Spelled.{map_known}
 
 -- Of tokens.
 
@@ -103,26 +104,10 @@ layer_apart (layer.Reference n) = record { joined = λ rest m e. both (wants_mar
 layer_apart (layer.List es) = record { joined = λ rest m e. (members_apart known_spelling (λ k. k.1) es).joined rest e }
 layer_apart (layer.Typed k p) = record { joined = λ rest m e. typed_apart p rest e }
 
-spell_known : (es : List Known) → map spelling (map (λ e. e.0) es) ≡ map known_spelling es
-spell_known [] = refl
-spell_known (e ∷ es) = ap (λ l. spelling e.0 ∷ l) (spell_known es)
-
-map_known : (y : Param-F Known) → map-Param Param (List Want) spelling (map-Param Known Param (λ e. e.0) y) ≡ map-Param Known (List Want) known_spelling y
-map_known layer.Unset = refl
-map_known layer.Derived = refl
-map_known (layer.Int p) = refl
-map_known (layer.Real p) = refl
-map_known (layer.Text p) = refl
-map_known (layer.Enumeration p) = refl
-map_known (layer.Binary p) = refl
-map_known (layer.Reference n) = refl
-map_known (layer.List es) = ap layer.List (spell_known es)
-map_known (layer.Typed k e) = refl
-
 -- behind a parameter a mark is to stand
 param_apart : (p : Param) → JoinsMark (spelling p)
 param_apart = ind-Param (λ q. JoinsMark (spelling q)) (λ x y is.
-    let here : map-Param Param (List Want) spelling x ≡ map-Param Known (List Want) known_spelling y = ap (map-Param Param (List Want) spelling) (sym is) ∙ map_known y in
+    let here : map-Param Param (List Want) spelling x ≡ map-Param Known (List Want) known_spelling y = ap (map-Param Param (List Want) spelling) (sym is) ∙ map_known (λ e. e.0) y in
     subst JoinsMark (sym (fold-roll-Param (List Want) layer_spelling x ∙ ap layer_spelling here)) (layer_apart y))
 
 arguments_apart : (ps : List Param) → Joins (arguments ps)

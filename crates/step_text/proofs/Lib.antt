@@ -12,8 +12,10 @@ pub mod Runs
 pub mod Laws
 pub mod Capitals
 pub mod Longer
+pub mod Spelled
 pub mod Apart
 pub mod Placed
+pub mod Moved
 pub mod Prints
 pub mod Fronts
 pub mod OneAnswer

@@ -46,18 +46,18 @@ at_mark : (P : ℕ → Type 0) → P 59 → P 61 → P 40 → P 41 → P 44 → 
 at_mark P p0 p1 p2 p3 p4 p5 p6 b e = elim (or_cases _ _ e) [
   | inr g ↦ at_byte P b 42 g p6
   | inl f ↦ elim (or_cases _ _ f) [
-      | inr g ↦ at_byte P b 36 g p5
+    | inr g ↦ at_byte P b 36 g p5
+    | inl f ↦ elim (or_cases _ _ f) [
+      | inr g ↦ at_byte P b 44 g p4
       | inl f ↦ elim (or_cases _ _ f) [
-          | inr g ↦ at_byte P b 44 g p4
-          | inl f ↦ elim (or_cases _ _ f) [
-              | inr g ↦ at_byte P b 41 g p3
-              | inl f ↦ elim (or_cases _ _ f) [
-                  | inr g ↦ at_byte P b 40 g p2
-                  | inl f ↦ elim (or_cases _ _ f) [ inr g ↦ at_byte P b 61 g p1 | inl g ↦ at_byte P b 59 g p0 ]
-                ]
-            ]
+        | inr g ↦ at_byte P b 41 g p3
+        | inl f ↦ elim (or_cases _ _ f) [
+          | inr g ↦ at_byte P b 40 g p2
+          | inl f ↦ elim (or_cases _ _ f) [ inr g ↦ at_byte P b 61 g p1 | inl g ↦ at_byte P b 59 g p0 ]
         ]
+      ]
     ]
+  ]
 ]
 
 -- a mark, or a token with a mark behind it
@@ -218,9 +218,9 @@ at_gap : (P : ℕ → Type 0) → P 32 → P 9 → P 13 → P 10 → P 47 → (b
 at_gap P p0 p1 p2 p3 p4 b e = elim (or_cases _ _ e) [
   | inr g ↦ at_byte P b 47 g p4
   | inl f ↦ elim (or_cases _ _ f) [
-      | inl f ↦ elim (or_cases _ _ f) [ inl g ↦ at_byte P b 32 g p0 | inr g ↦ at_byte P b 9 g p1 ]
-      | inr f ↦ elim (or_cases _ _ f) [ inl g ↦ at_byte P b 13 g p2 | inr g ↦ at_byte P b 10 g p3 ]
-    ]
+    | inl f ↦ elim (or_cases _ _ f) [ inl g ↦ at_byte P b 32 g p0 | inr g ↦ at_byte P b 9 g p1 ]
+    | inr f ↦ elim (or_cases _ _ f) [ inl g ↦ at_byte P b 13 g p2 | inr g ↦ at_byte P b 10 g p3 ]
+  ]
 ]
 
 gap_class : (k : TokenKind) (b : ℕ) (bs : List ℕ) → begins_gap b ≡ true → by_class k (b ∷ bs) ≡ false

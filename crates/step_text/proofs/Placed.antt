@@ -84,12 +84,11 @@ token_next page pre (b ∷ bs) more k from e gap is next =
     let rest : drop (length pre) page ≡ (b ∷ bs) ++ more = ap (drop (length pre)) e ∙ drop-append_seam pre ((b ∷ bs) ++ more) in
     let size : length page ≡ length pre + length ((b ∷ bs) ++ more) = ap length e ∙ length-append pre ((b ∷ bs) ++ more) in
     let width : (length pre + length (b ∷ bs)) - length pre ≡ length (b ∷ bs) = omega arith in
-    let first : slice_index page (length pre) ≡ b = ap (λ l. slice_index l (length pre)) e ∙ get_or_at pre b (bs ++ more) 0 (length pre) refl in
-    (
+    let first : slice_index page (length pre) ≡ b = ap (λ l. slice_index l (length pre)) e ∙ get_or_at pre b (bs ++ more) 0 (length pre) refl in (
       record { gap = gap; within = omega arith; no_more = no_piece page (length pre) k b bs first is },
       omega arith,
       subst (λ n. IsLongest is_spelled (drop (length pre) page) k n) (sym width)
-      (subst (λ l. IsLongest is_spelled l k (length (b ∷ bs))) (sym rest) (token_longest k (b ∷ bs) more is next)),
+          (subst (λ l. IsLongest is_spelled l k (length (b ∷ bs))) (sym rest) (token_longest k (b ∷ bs) more is next)),
     )
 
 token_text : (page pre text more : List ℕ) → page ≡ pre ++ (text ++ more) → text ≡ take ((length pre + length text) - length pre) (drop (length pre) page)
@@ -129,8 +128,7 @@ reads_placed page pre (l ∷ ls) from e gap are apart =
     token_next page pre (printed l) (line_end l ++ canonical ls) l.kind from split gap (printed_spelled l.kind l.text are.0) (follows l ls parts.0 are.1) in
     let line : Between page end (length behind) =
     subst (Between page end) (sym size) (line_gap page pre (printed l) (canonical ls) (is_mark_of (codes ";") l) e) in
-    let more : (to : ℕ) × Reads page end (placed (length behind) ls) to × IsNext page to End = reads_placed page behind ls end onward line are.1 parts.1 in
-    (
+    let more : (to : ℕ) × Reads page end (placed (length behind) ls) to × IsNext page to End = reads_placed page behind ls end onward line are.1 parts.1 in (
       more.0,
       (
         token l.kind (length pre) end,

@@ -1,9 +1,12 @@
 -- The canonical spelling grows by a token.
-use Rattle.std.proofs.Common.{◌≡◌, ℕ, ◌+◌, ◌<◌, ◌≤◌, List, [], ◌∷◌, ◌++◌, refl, sym, ◌∙◌, ap, arith, subst, Bool, true, ◌&&◌, ◌||◌, append_assoc, append-nil}
+use Rattle.std.proofs.Common.{◌≡◌, ℕ, ◌+◌, ◌<◌, ◌≤◌, List, [], ◌∷◌, ◌++◌, refl, sym, ◌∙◌, ap, arith, subst, Bool, true, All, append_assoc, append-nil}
 use Rattle.spec_step.specs.Gaps.{IsNext}
 use Rattle.spec_step.specs.Lexemes.{Lexeme, lexeme_of, IsToken, Reads, HasTokens}
 use Rattle.spec_step.specs.Canonical.{printed, line_end, canonical, IsCanonical, IsReprint}
-use Rattle.spec_step.specs.Files.{IsFile, is_mark_kind}
+use Rattle.spec_step.specs.Files.{IsFile, IsShallow}
+use Rattle.spec_step.specs.Grammar.{IsAs, IsDerived, file_spelling}
+use Rattle.spec_step.specs.Spans.{bytes_at}
+use Rattle.std.specs.List.{AllZip}
 use Rattle.std.proofs.Math.Logic.{∥∥₁_elim, ∥∥₁_map}
 use mathlib.Core.Bool.{Bool-set}
 use Rattle.spec_step.specs.declared.token.Token.{Token}
@@ -15,8 +18,9 @@ use Rattle.step_text.specs.Printing.{printed_token}
 use Rattle.step_text.proofs.Glue.{reads_more, reads_tokens}
 use Rattle.step_text.proofs.Apart.{is_apart, derived_apart}
 use Rattle.step_text.proofs.OneAnswer.{one_text}
+use Rattle.step_text.proofs.Moved.{move, moved_want, IsPrinted, starts, ends, all_printed, all_moved, all_texts, file_carried, shallow_moved, entries_moved}
 use Rattle.step_text.proofs.Placed.{placed, page_tokens, canonical_placed}
-use Rattle.std.proofs.lemmas.List.Elements.{recursion_from_All}
+use Rattle.std.proofs.lemmas.List.Elements.{recursion_from_All, All-from_recursion}
 
 canonical_more : (ls : List Lexeme) (l : Lexeme) → canonical (ls ++ l ∷ []) ≡ canonical ls ++ (printed l ++ line_end l)
 canonical_more [] l = append-nil (printed l ++ line_end l)
@@ -35,10 +39,6 @@ printed_more s at t old new text h next is e =
       e ∙ ap (λ x. old ++ printed_token t.kind x) is ∙ ap (λ x. x ++ (printed l ++ line_end l)) h.2 ∙ sym (canonical_more h.0 l),
     )
 
--- the printed text of a file, read again: the same trees
-pub reprint : (s : List ℕ) (head : List Entry) (instances : List Instance) (ls : List Lexeme) → HasTokens s ls → IsFile s head instances → IsReprint s head instances (canonical ls)
-reprint s head instances ls h f = ?
-
 -- the tokens of a file stand apart
 pub file_apart : (s : List ℕ) (head : List Entry) (instances : List Instance) (ls : List Lexeme) → HasTokens s ls → IsFile s head instances → is_apart ls ≡ true
 file_apart s head instances ls h f = subst (λ l. is_apart l ≡ true) (one_text s f.lexemes ls f.tokens h) (derived_apart head instances f.lexemes f.derived.tokens)
@@ -47,6 +47,32 @@ file_apart s head instances ls h f = subst (λ l. is_apart l ≡ true) (one_text
 pub canonical_again : (s : List ℕ) (ls : List Lexeme) → HasTokens s ls → is_apart ls ≡ true → IsCanonical (canonical ls) (canonical ls)
 canonical_again s ls h apart =
     (placed 0 ls, page_tokens ls (recursion_from_All IsToken ls (reads_tokens s 0 h.0 ls h.1)) apart, sym (canonical_placed 0 ls))
+
+-- the printed text of a file, read again: the same trees
+pub reprint : (s : List ℕ) (head : List Entry) (instances : List Instance) (ls : List Lexeme) → HasTokens s ls → IsFile s head instances → IsReprint s head instances (canonical ls)
+reprint s head instances ls h f =
+    let page : List ℕ = canonical ls in
+    let ms : List Lexeme = placed 0 ls in
+    let begin : ℕ → ℕ = starts 0 ls in
+    let close : ℕ → ℕ = ends 0 ls in
+    let same : f.lexemes ≡ ls = one_text s f.lexemes ls f.tokens h in
+    let tokens : HasTokens page ms = page_tokens ls (recursion_from_All IsToken ls (reads_tokens s 0 h.0 ls h.1)) (file_apart s head instances ls h f) in
+    let printed_all : AllZip (IsPrinted begin close) ls ms = all_printed begin close s 0 0 h.0 ls h.1 (λ x le. refl) (λ x lt. refl) in
+    let derived : IsDerived ls head instances = subst (λ l. IsDerived l head instances) same f.derived in
+    record {
+      move = move begin close;
+      texts = λ others k. subst (All (λ l. bytes_at page (move begin close l.span) ≡ printed l)) (one_text s ls others h k)
+          (All-from_recursion (λ (l : Lexeme). bytes_at page (move begin close l.span) ≡ printed l) ls (all_texts begin close page 0 tokens.0 ls ms printed_all tokens.1));
+      file = record {
+        lexemes = ms;
+        tokens = tokens;
+        derived = record {
+          tokens = subst (λ ws. AllZip IsAs ws ms) (sym (file_carried begin close head instances)) (all_moved begin close (file_spelling head instances) ls ms derived.tokens printed_all);
+          entries = entries_moved begin close instances derived.entries;
+        };
+        shallow = shallow_moved begin close ls ms printed_all (subst IsShallow same f.shallow);
+      };
+    }
 
 pub print_again : (s : List ℕ) (head : List Entry) (instances : List Instance) (page : List ℕ) → ∥ IsFile s head instances ∥₁ → IsCanonical s page → IsCanonical page page
 print_again s head instances page given c =

@@ -1,4 +1,4 @@
-use Rattle.std.proofs.Common.{◌≡◌, arith, refl, sym}
+use Rattle.std.proofs.Common.{arith, refl}
 use Rattle.spec_step.specs.Lexemes.{lexeme_of}
 use Rattle.spec_step.specs.Canonical.{IsCanonical}
 use Rattle.step_text.proofs.Glue.{token_end}

@@ -1,4 +1,4 @@
-use Rattle.std.proofs.Common.{◌≡◌, ◌-◌, ◌≤◌, List, length}
+use Rattle.std.proofs.Common.{◌-◌, ◌≤◌, length}
 use Rattle.step_text.proofs.Prints.{Printed}
 use Rattle.step_text.proofs.print.print_file.Given as goal
 
