@@ -8,6 +8,7 @@ use Rattle.spec_step.specs.declared.tree.Instance.{Instance}
 use Rattle.step_grammar.specs.Symbols.{symbol_of}
 use Rattle.step_grammar.specs.Places.{State, open_at, run_on}
 use Rattle.step_text.proofs.Runs.{runs_both, none_goes_on}
+use Rattle.step_grammar.proofs.Depth.{depth_is}
 use Rattle.step_grammar.specs.Runs.{runs, whole}
 
 -- what was read behind the last semicolon are the trees of the tokens
@@ -30,7 +31,7 @@ no_begin ls h b =
 
 -- the machine counts the parentheses that stand open
 pub depth : (ls : List Lexeme) (q : State) → All IsToken ls → runs ls ≡ Some q → open_behind 0 ls ≡ open_at q
-depth ls q are h = ?
+depth ls q are h = depth_is ls q are h
 
 -- behind the last semicolon nothing is open
 pub place_whole : (ls : List Lexeme) (q : State) → runs ls ≡ Some q → q.place ≡ (whole [] []).place → q ≡ whole q.head q.instances
