@@ -9,6 +9,7 @@ use Rattle.step_grammar.specs.Symbols.{symbol_of}
 use Rattle.step_grammar.specs.Places.{State, open_at, run_on}
 use Rattle.step_text.proofs.Runs.{runs_both, none_goes_on}
 use Rattle.step_grammar.proofs.Depth.{depth_is}
+use Rattle.step_grammar.proofs.Frames.{place_whole_is}
 use Rattle.step_grammar.specs.Runs.{runs, whole}
 
 -- what was read behind the last semicolon are the trees of the tokens
@@ -35,4 +36,4 @@ depth ls q are h = depth_is ls q are h
 
 -- behind the last semicolon nothing is open
 pub place_whole : (ls : List Lexeme) (q : State) → runs ls ≡ Some q → q.place ≡ (whole [] []).place → q ≡ whole q.head q.instances
-place_whole ls q h p = ?
+place_whole ls q h p = place_whole_is ls q h p
