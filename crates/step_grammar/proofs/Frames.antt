@@ -107,20 +107,20 @@ fit_entry (spot.Read e) frames s h = tt
 -- In a file.
 
 -- nothing of the header and of the instances is read, or nothing of the instances
-abbrev Fresh : State → Type 0
+abbrev pub Fresh : State → Type 0
 Fresh q = (q.frames ≡ []) × (q.head ≡ []) × (q.instances ≡ [])
 
-abbrev InHeader : State → Type 0
+abbrev pub InHeader : State → Type 0
 InHeader q = (q.frames ≡ []) × (q.instances ≡ [])
 
 -- the instances that are whole have entries
 abbrev pub HaveEntries : List Instance → Type 0
 HaveEntries instances = All (λ (i : Instance). HasEntry i.body) instances
 
-abbrev InInstances : State → Type 0
+abbrev pub InInstances : State → Type 0
 InInstances q = (q.frames ≡ []) × HaveEntries q.instances
 
-abbrev FitsFixed : Fixed → State → Type 0
+abbrev pub FitsFixed : Fixed → State → Type 0
 FitsFixed fixed.StartWord q = Fresh q
 FitsFixed fixed.StartEnd q = Fresh q
 FitsFixed fixed.Header q = Fresh q
@@ -134,7 +134,7 @@ FitsFixed fixed.FileEnd q = InInstances q
 FitsFixed fixed.Nothing q = InInstances q
 
 -- what can be open and read at a place
-abbrev FitsAt : Place → State → Type 0
+abbrev pub FitsAt : Place → State → Type 0
 FitsAt (place.Fixed f) q = FitsFixed f q
 FitsAt place.Head q = InHeader q
 FitsAt (place.HeadEntry p) q = FitsSpot p q.frames × (q.instances ≡ [])
@@ -149,7 +149,7 @@ FitsAt (place.Closed key es) q = (q.frames ≡ []) × HaveEntries q.instances ×
 abbrev pub Fits : State → Type 0
 Fits q = FitsAt q.place q
 
-abbrev FitsState : Option State → Type 0
+abbrev pub FitsState : Option State → Type 0
 FitsState None = Unit {0}
 FitsState (Some q) = Fits q
 
@@ -254,7 +254,7 @@ fit_complex q key es spot.Before s h k = fit_in_complex q key es _ (fit_entry sp
 fit_complex q key es (spot.Typed x) s h k = fit_in_complex q key es _ (fit_entry (spot.Typed x) q.frames s h) k
 fit_complex q key es (spot.Behind p) s h k = fit_in_complex q key es _ (fit_entry (spot.Behind p) q.frames s h) k
 
-fit_step : (q : State) (p : Place) (s : Symbol) → FitsAt p q → FitsState (step_at q p s)
+pub fit_step : (q : State) (p : Place) (s : Symbol) → FitsAt p q → FitsState (step_at q p s)
 fit_step q (place.Fixed f) s h = fit_fixed q f s h
 fit_step q place.Head s h = fit_head q s h
 fit_step q (place.HeadEntry p) s h = fit_head_entry q p s h.0 h.1

@@ -10,11 +10,12 @@ use Rattle.step_grammar.specs.Places.{State, open_at, run_on}
 use Rattle.step_text.proofs.Runs.{runs_both, none_goes_on}
 use Rattle.step_grammar.proofs.Depth.{depth_is}
 use Rattle.step_grammar.proofs.Frames.{place_whole_is}
+use Rattle.step_grammar.proofs.Sound.{sound_is}
 use Rattle.step_grammar.specs.Runs.{runs, whole}
 
 -- what was read behind the last semicolon are the trees of the tokens
 pub sound : (ls : List Lexeme) (head : List Entry) (instances : List Instance) → All IsToken ls → runs ls ≡ Some (whole head instances) → IsDerived ls head instances
-sound ls head instances are h = ?
+sound ls head instances are h = sound_is ls head instances are h
 
 -- the tokens of a file lead behind its last semicolon, and give its trees
 pub complete : (ls : List Lexeme) (head : List Entry) (instances : List Instance) → IsDerived ls head instances → runs ls ≡ Some (whole head instances)
