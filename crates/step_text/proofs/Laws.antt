@@ -8,6 +8,7 @@ use Rattle.spec_step.specs.declared.tree.Instance.{Instance}
 use Rattle.step_grammar.specs.Symbols.{symbol_of}
 use Rattle.step_grammar.specs.Places.{State, open_at, run_on}
 use Rattle.step_text.proofs.Runs.{runs_both, none_goes_on}
+use Rattle.step_grammar.proofs.Complete.{complete_is}
 use Rattle.step_grammar.proofs.Depth.{depth_is}
 use Rattle.step_grammar.proofs.Frames.{place_whole_is}
 use Rattle.step_grammar.proofs.Sound.{sound_is}
@@ -19,7 +20,7 @@ sound ls head instances are h = sound_is ls head instances are h
 
 -- the tokens of a file lead behind its last semicolon, and give its trees
 pub complete : (ls : List Lexeme) (head : List Entry) (instances : List Instance) → IsDerived ls head instances → runs ls ≡ Some (whole head instances)
-complete ls head instances h = ?
+complete ls head instances h = complete_is ls head instances h
 
 -- tokens that may stand where they stand begin some file
 pub begins : (ls : List Lexeme) (q : State) → All IsToken ls → runs ls ≡ Some q → BeginsFile ls
