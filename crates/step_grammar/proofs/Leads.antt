@@ -38,7 +38,7 @@ use Rattle.step_grammar.proofs.Said.{as_kind, as_mark, as_ending, as_spanned, as
 pub record Leads (q : State) (ws : List Want) (next : State) : Type 0 where
   pub leads : (ls : List Lexeme) → AllZip IsAs ws ls → run_on (Some q) (map symbol_of ls) ≡ Some next
 
-run_on-append : (o : Option State) (xs ys : List Symbol) → run_on o (xs ++ ys) ≡ run_on (run_on o xs) ys
+pub run_on-append : (o : Option State) (xs ys : List Symbol) → run_on o (xs ++ ys) ≡ run_on (run_on o xs) ys
 run_on-append None xs ys = refl
 run_on-append (Some p) [] ys = refl
 run_on-append (Some p) (x ∷ xs) ys = run_on-append (step p x) xs ys
@@ -73,7 +73,7 @@ split (x ∷ xs) ys (l ∷ ls) h =
     let s : Split xs ys ls = split xs ys ls h.1 in
     record { front = l ∷ s.front; rest = s.rest; both = ap (λ z. l ∷ z) s.both; zip_front = (h.0, s.zip_front); zip_rest = s.zip_rest }
 
-map_both : (ls ms : List Lexeme) → map symbol_of (ls ++ ms) ≡ map symbol_of ls ++ map symbol_of ms
+pub map_both : (ls ms : List Lexeme) → map symbol_of (ls ++ ms) ≡ map symbol_of ls ++ map symbol_of ms
 map_both [] ms = refl
 map_both (x ∷ ls) ms = ap (λ xs. symbol_of x ∷ xs) (map_both ls ms)
 

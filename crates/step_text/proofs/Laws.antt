@@ -10,6 +10,7 @@ use Rattle.step_grammar.specs.Places.{State, open_at, run_on}
 use Rattle.step_text.proofs.Runs.{runs_both, none_goes_on}
 use Rattle.step_grammar.proofs.Complete.{complete_is}
 use Rattle.step_grammar.proofs.Depth.{depth_is}
+use Rattle.step_grammar.proofs.Ends.{begins_is}
 use Rattle.step_grammar.proofs.Frames.{place_whole_is}
 use Rattle.step_grammar.proofs.Sound.{sound_is}
 use Rattle.step_grammar.specs.Runs.{runs, whole}
@@ -24,7 +25,7 @@ complete ls head instances h = complete_is ls head instances h
 
 -- tokens that may stand where they stand begin some file
 pub begins : (ls : List Lexeme) (q : State) → All IsToken ls → runs ls ≡ Some q → BeginsFile ls
-begins ls q are h = ?
+begins ls q are h = begins_is ls q are h
 
 -- no other tokens begin one
 pub no_begin : (ls : List Lexeme) → runs ls ≡ None → BeginsFile ls → ⊥
