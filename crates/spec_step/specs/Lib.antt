@@ -2,3 +2,8 @@ pub mod Spelling
 pub mod Longest
 pub mod Gaps
 pub mod Form
+pub mod Spans
+pub mod Lexemes
+pub mod Grammar
+pub mod Files
+pub mod Canonical

@@ -1,6 +1,10 @@
-//! Tokens of STEP text (ISO 10303-21), and the form of file that is built.
+//! Tokens and files of STEP text (ISO 10303-21), and the form of file that is built.
 #![tactic(auto)]
 
+mod fault;
 mod token;
+mod tree;
 
+pub use fault::StepFault;
 pub use token::{Span, Token, TokenKind, TokenStep};
+pub use tree::{Body, Entry, Instance, Param};

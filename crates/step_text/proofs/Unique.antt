@@ -74,7 +74,7 @@ kind-code kind.Enumeration = refl
 kind-code kind.Binary = refl
 kind-code kind.Mark = refl
 
-same_kind : (j k : TokenKind) → same j k ≡ true → j ≡ k
+pub same_kind : (j k : TokenKind) → same j k ≡ true → j ≡ k
 same_kind j k e = sym (kind-code j) ∙ ap kind_of (eqb-true (code j) (code k) e) ∙ kind-code k
 
 -- what a state accepts has one kind
@@ -104,10 +104,10 @@ starts_otherwise : start_word ≡ end_word → ⊥
 starts_otherwise e = true≢false (ap (one (λ b. b == 73) (λ bs. true)) e)
 
 -- the bytes are one of the two words, or in a class
-abbrev Spelt : TokenKind → List ℕ → Type 0
+abbrev pub Spelt : TokenKind → List ℕ → Type 0
 Spelt k bs = ((k ≡ kind.StartWord) × (bs ≡ start_word)) ⊎ (((k ≡ kind.EndWord) × (bs ≡ end_word)) ⊎ (by_class k bs ≡ true))
 
-spelt : (k : TokenKind) (bs : List ℕ) → is_spelled k bs ≡ true → Spelt k bs
+pub spelt : (k : TokenKind) (bs : List ℕ) → is_spelled k bs ≡ true → Spelt k bs
 spelt kind.StartWord bs e = inl (refl, word_is start_word bs e)
 spelt kind.EndWord bs e = inr (inl (refl, word_is end_word bs e))
 spelt kind.Keyword bs e = inr (inr e)

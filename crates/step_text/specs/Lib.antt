@@ -1,2 +1,6 @@
 pub mod Machine
 pub mod Parts
+pub mod Answers
+pub mod Reading
+pub mod Schemas
+pub mod Printing

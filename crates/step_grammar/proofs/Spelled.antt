@@ -1,0 +1,398 @@
+-- What was read so far, as the grammar wants it, and that each step adds one token.
+use Rattle.std.proofs.Common.{◌≡◌, ℕ, List, [], ◌∷◌, ◌++◌, Option, Some, None, map, codes, refl, sym, ◌∙◌, ap, append_assoc, append-nil}
+use Rattle.std.proofs.lemmas.List.{flat_map_more}
+use Rattle.std.specs.List.{flat_map}
+use Rattle.spec_step.specs.Lexemes.{Lexeme}
+use Rattle.spec_step.specs.Grammar.{Want, start_word, end_word, word, mark, spanned, head_keyword, reference, number, ending, IsAs, semicolon, equals, opening, closing, comma, members, further, layer_spelling, spelling, arguments, entry_spelling, head_spelling, body_spelling, instance_spelling, section_end, file_start, data_start, file_end, file_spelling}
+use Rattle.spec_step.specs.declared.token.Span.{Span}
+use Rattle.spec_step.specs.declared.token.TokenKind.TheVariants as kind
+use Rattle.spec_step.specs.declared.tree.Param.{Param}
+use Rattle.spec_step.specs.declared.tree.Param as rolled
+use Rattle.spec_step.specs.declared.tree.Param.TheVariants as param
+use Rattle.spec_step.specs.declared.tree.Param.TheOpen as layer
+use Rattle.spec_step.specs.declared.tree.Param.TheFolds.{fold-roll-Param}
+use Rattle.spec_step.specs.declared.tree.Entry.{Entry}
+use Rattle.spec_step.specs.declared.tree.Body.{Body}
+use Rattle.spec_step.specs.declared.tree.Body.TheVariants as body
+use Rattle.spec_step.specs.declared.tree.Instance.{Instance}
+use Rattle.step_grammar.specs.Entries.{Stand, entry_step, step_named, step_before, step_opened, step_typed, step_behind, close_empty, close, go_on, param_of}
+use Rattle.step_grammar.specs.Places.{State, step, step_at, step_fixed, step_head, step_instances, step_numbered, step_equated, step_opened_instance, step_head_entry, step_simple, step_complex, behind_head_entry, behind_body, behind_part, at_place, in_entry, with_entry}
+use Rattle.step_grammar.specs.declared.symbol.Atom.{Atom}
+use Rattle.step_grammar.specs.declared.symbol.Atom.TheVariants as atom
+use Rattle.step_grammar.specs.declared.symbol.Name.TheVariants as name
+use Rattle.step_grammar.specs.declared.symbol.Symbol.{Symbol}
+use Rattle.step_grammar.specs.declared.symbol.Symbol.TheVariants as symbol
+use Rattle.step_grammar.specs.declared.entry.Frame.{Frame}
+use Rattle.step_grammar.specs.declared.entry.Frame.TheVariants as frame
+use Rattle.step_grammar.specs.declared.entry.Spot.{Spot}
+use Rattle.step_grammar.specs.declared.entry.Spot.TheVariants as spot
+use Rattle.step_grammar.specs.declared.place.Fixed.{Fixed}
+use Rattle.step_grammar.specs.declared.place.Fixed.TheVariants as fixed
+use Rattle.step_grammar.specs.declared.place.Key.{Key}
+use Rattle.step_grammar.specs.declared.place.Place.{Place}
+use Rattle.step_grammar.specs.declared.place.Place.TheVariants as place
+use Rattle.step_grammar.proofs.Frames.{FitsSpot, FitsFixed, FitsAt, HaveEntries}
+use Rattle.step_grammar.proofs.Spoken.{Spoken, atom_want, semicolon_ends, is_end_section, is_header, is_data, is_head}
+
+-- Parameters.
+
+pub spelling_list : (ps : List Param) → spelling (param.List ps) ≡ opening ∷ members (map spelling ps)
+unfolding rolled.roll-Param denote.Hole.Carrier.roll
+spelling_list ps = fold-roll-Param (List Want) layer_spelling (layer.List ps)
+
+pub spelling_typed : (k : Span) (p : Param) → spelling (param.Typed k p) ≡ spanned kind.Keyword k ∷ opening ∷ (spelling p ++ closing ∷ [])
+unfolding rolled.roll-Param denote.Hole.Carrier.roll
+spelling_typed k p = fold-roll-Param (List Want) layer_spelling (layer.Typed k p)
+
+pub spelling_reference : (n : ℕ) → spelling (param.Reference n) ≡ reference n ∷ []
+unfolding rolled.roll-Param denote.Hole.Carrier.roll
+spelling_reference n = fold-roll-Param (List Want) layer_spelling (layer.Reference n)
+
+pub spelling_atom : (a : Atom) → spelling (param_of a) ≡ atom_want a ∷ []
+unfolding rolled.roll-Param denote.Hole.Carrier.roll
+spelling_atom atom.Unset = fold-roll-Param (List Want) layer_spelling layer.Unset
+spelling_atom atom.Derived = fold-roll-Param (List Want) layer_spelling layer.Derived
+spelling_atom (atom.Int p) = fold-roll-Param (List Want) layer_spelling (layer.Int p)
+spelling_atom (atom.Real p) = fold-roll-Param (List Want) layer_spelling (layer.Real p)
+spelling_atom (atom.Text p) = fold-roll-Param (List Want) layer_spelling (layer.Text p)
+spelling_atom (atom.Enumeration p) = fold-roll-Param (List Want) layer_spelling (layer.Enumeration p)
+spelling_atom (atom.Binary p) = fold-roll-Param (List Want) layer_spelling (layer.Binary p)
+
+-- parameters, each with a comma behind it
+abbrev listed : List Param → List Want
+listed [] = []
+listed (p ∷ ps) = spelling p ++ (comma ∷ listed ps)
+
+listed_last : (ps : List Param) (p : Param) → listed (ps ++ p ∷ []) ≡ listed ps ++ (spelling p ++ comma ∷ [])
+listed_last [] p = refl
+listed_last (x ∷ ps) p = ap (λ l. spelling x ++ (comma ∷ l)) (listed_last ps p) ∙ sym (append_assoc (spelling x) (comma ∷ listed ps) (spelling p ++ comma ∷ []))
+
+further_last : (ps : List Param) (p : Param) → further (map spelling (ps ++ p ∷ [])) ≡ comma ∷ members (map spelling (ps ++ p ∷ []))
+further_last [] p = refl
+further_last (x ∷ ps) p = refl
+
+members_last : (ps : List Param) (p : Param) → members (map spelling (ps ++ p ∷ [])) ≡ listed ps ++ (spelling p ++ closing ∷ [])
+members_last [] p = refl
+members_last (x ∷ ps) p =
+    ap (λ l. spelling x ++ l) (further_last ps p ∙ ap (λ l. comma ∷ l) (members_last ps p))
+    ∙ sym (append_assoc (spelling x) (comma ∷ listed ps) (spelling p ++ closing ∷ []))
+
+-- Entries. What is wanted of an entry's keyword depends on where the entry stands.
+
+-- what stands up to the last comma or opening parenthesis
+abbrev before : (Span → Want) → List Frame → List Want
+before first [] = []
+before first (frame.Entry k ps ∷ frames) = before first frames ++ (first k ∷ opening ∷ listed ps)
+before first (frame.List ps ∷ frames) = before first frames ++ (opening ∷ listed ps)
+before first (frame.Typed k ∷ frames) = before first frames ++ (spanned kind.Keyword k ∷ opening ∷ [])
+
+abbrev read_entry : (Span → Want) → Spot → List Frame → List Want
+read_entry first (spot.Named k) frames = before first frames ++ first k ∷ []
+read_entry first spot.Opened frames = before first frames
+read_entry first spot.Before frames = before first frames
+read_entry first (spot.Typed k) frames = before first frames ++ spanned kind.Keyword k ∷ []
+read_entry first (spot.Behind p) frames = before first frames ++ spelling p
+read_entry first (spot.Read e) frames = before first frames ++ (first e.keyword ∷ arguments e.params)
+
+abbrev AddsStand : (Span → Want) → Lexeme → List Want → Option Stand → Type 0
+AddsStand first l ws None = Unit {0}
+AddsStand first l ws (Some stand) = (w : Want) × IsAs w l × (read_entry first stand.0 stand.1 ≡ ws ++ w ∷ [])
+
+add_named : (first : Span → Want) (k : Span) (frames : List Frame) (s : Symbol) (l : Lexeme) → Spoken s l → AddsStand first l (read_entry first (spot.Named k) frames) (step_named k frames s)
+add_named first k frames symbol.Open l h = (opening, h, sym (append_assoc (before first frames) (first k ∷ []) (opening ∷ [])))
+add_named first k frames s l h = tt
+
+add_before : (first : Span → Want) (frames : List Frame) (s : Symbol) (l : Lexeme) → Spoken s l → AddsStand first l (before first frames) (step_before frames s)
+add_before first frames (symbol.Atom a) l h = (atom_want a, h, ap (λ x. before first frames ++ x) (spelling_atom a))
+add_before first frames (symbol.Number n from) l h = (reference n, (h.0, h.1), ap (λ x. before first frames ++ x) (spelling_reference n))
+add_before first frames (symbol.Keyword p n) l h = (spanned kind.Keyword p, (h.0, h.1), refl)
+add_before first frames symbol.Open l h = (opening, h, refl)
+add_before first frames s l h = tt
+
+add_close_empty : (first : Span → Want) (frames : List Frame) (l : Lexeme) → IsAs closing l → AddsStand first l (before first frames) (close_empty frames)
+add_close_empty first [] l h = tt
+add_close_empty first (frame.List [] ∷ frames) l h =
+    (closing, h, ap (λ x. before first frames ++ x) (spelling_list []) ∙ sym (append_assoc (before first frames) (opening ∷ []) (closing ∷ [])))
+add_close_empty first (frame.List (p ∷ ps) ∷ frames) l h = tt
+add_close_empty first (frame.Entry k [] ∷ frames) l h = (closing, h, sym (append_assoc (before first frames) (first k ∷ opening ∷ []) (closing ∷ [])))
+add_close_empty first (frame.Entry k (p ∷ ps) ∷ frames) l h = tt
+add_close_empty first (frame.Typed k ∷ frames) l h = tt
+
+add_opened : (first : Span → Want) (frames : List Frame) (s : Symbol) (l : Lexeme) → Spoken s l → AddsStand first l (before first frames) (step_opened frames s)
+add_opened first frames symbol.Close l h = add_close_empty first frames l h
+add_opened first frames (symbol.Atom a) l h = add_before first frames (symbol.Atom a) l h
+add_opened first frames (symbol.Number n from) l h = add_before first frames (symbol.Number n from) l h
+add_opened first frames (symbol.Keyword p n) l h = add_before first frames (symbol.Keyword p n) l h
+add_opened first frames symbol.Open l h = add_before first frames symbol.Open l h
+add_opened first frames s l h = tt
+
+add_typed : (first : Span → Want) (k : Span) (frames : List Frame) (s : Symbol) (l : Lexeme) → Spoken s l → AddsStand first l (read_entry first (spot.Typed k) frames) (step_typed k frames s)
+add_typed first k frames symbol.Open l h = (opening, h, sym (append_assoc (before first frames) (spanned kind.Keyword k ∷ []) (opening ∷ [])))
+add_typed first k frames s l h = tt
+
+regroup : (a b c d : List Want) → a ++ (b ++ (c ++ d)) ≡ ((a ++ b) ++ c) ++ d
+regroup a b c d = sym (simp append_assoc)
+
+add_close : (first : Span → Want) (p : Param) (frames : List Frame) (l : Lexeme) → IsAs closing l → AddsStand first l (before first frames ++ spelling p) (close p frames)
+add_close first p [] l h = tt
+add_close first p (frame.List ps ∷ frames) l h =
+    (closing, h, ap (λ x. before first frames ++ x) (spelling_list (ps ++ p ∷ []) ∙ ap (λ x. opening ∷ x) (members_last ps p))
+        ∙ regroup (before first frames) (opening ∷ listed ps) (spelling p) (closing ∷ []))
+add_close first p (frame.Typed k ∷ frames) l h =
+    (closing, h, ap (λ x. before first frames ++ x) (spelling_typed k p)
+        ∙ regroup (before first frames) (spanned kind.Keyword k ∷ opening ∷ []) (spelling p) (closing ∷ []))
+add_close first p (frame.Entry k ps ∷ frames) l h =
+    (closing, h, ap (λ x. before first frames ++ (first k ∷ opening ∷ x)) (members_last ps p)
+        ∙ regroup (before first frames) (first k ∷ opening ∷ listed ps) (spelling p) (closing ∷ []))
+
+add_go_on : (first : Span → Want) (p : Param) (frames : List Frame) (l : Lexeme) → IsAs comma l → AddsStand first l (before first frames ++ spelling p) (go_on p frames)
+add_go_on first p [] l h = tt
+add_go_on first p (frame.List ps ∷ frames) l h =
+    (comma, h, ap (λ x. before first frames ++ (opening ∷ x)) (listed_last ps p) ∙ regroup (before first frames) (opening ∷ listed ps) (spelling p) (comma ∷ []))
+add_go_on first p (frame.Typed k ∷ frames) l h = tt
+add_go_on first p (frame.Entry k ps ∷ frames) l h =
+    (comma, h, ap (λ x. before first frames ++ (first k ∷ opening ∷ x)) (listed_last ps p) ∙ regroup (before first frames) (first k ∷ opening ∷ listed ps) (spelling p) (comma ∷ []))
+
+add_behind : (first : Span → Want) (p : Param) (frames : List Frame) (s : Symbol) (l : Lexeme) → Spoken s l → AddsStand first l (before first frames ++ spelling p) (step_behind p frames s)
+add_behind first p frames symbol.Close l h = add_close first p frames l h
+add_behind first p frames symbol.Comma l h = add_go_on first p frames l h
+add_behind first p frames s l h = tt
+
+add_entry : (first : Span → Want) (p : Spot) (frames : List Frame) (s : Symbol) (l : Lexeme) → Spoken s l → AddsStand first l (read_entry first p frames) (entry_step p frames s)
+add_entry first (spot.Named k) frames s l h = add_named first k frames s l h
+add_entry first spot.Opened frames s l h = add_opened first frames s l h
+add_entry first spot.Before frames s l h = add_before first frames s l h
+add_entry first (spot.Typed k) frames s l h = add_typed first k frames s l h
+add_entry first (spot.Behind p) frames s l h = add_behind first p frames s l h
+add_entry first (spot.Read e) frames s l h = tt
+
+-- Files.
+
+-- the header up to its last entry, and the file up to its last instance
+abbrev headed : List Entry → List Want
+headed head = file_start ++ flat_map head_spelling head
+
+abbrev pub dated : List Entry → List Instance → List Want
+dated head instances = headed head ++ (data_start ++ flat_map instance_spelling instances)
+
+-- and the whole file
+pub file_is : (head : List Entry) (instances : List Instance) → dated head instances ++ file_end ≡ file_spelling head instances
+file_is head instances = ap (λ x. x ++ file_end) (sym (append_assoc (headed head) data_start (flat_map instance_spelling instances)))
+
+abbrev read_fixed : Fixed → State → List Want
+read_fixed fixed.StartWord q = []
+read_fixed fixed.StartEnd q = start_word ∷ []
+read_fixed fixed.Header q = start_word ∷ semicolon ∷ []
+read_fixed fixed.HeaderStart q = start_word ∷ semicolon ∷ word (codes "HEADER") ∷ []
+read_fixed fixed.HeaderEnd q = headed q.head ++ word (codes "ENDSEC") ∷ []
+read_fixed fixed.Data q = headed q.head ++ section_end
+read_fixed fixed.DataStart q = headed q.head ++ (section_end ++ word (codes "DATA") ∷ [])
+read_fixed fixed.DataEnd q = dated q.head q.instances ++ word (codes "ENDSEC") ∷ []
+read_fixed fixed.EndWord q = dated q.head q.instances ++ section_end
+read_fixed fixed.FileEnd q = dated q.head q.instances ++ (section_end ++ end_word ∷ [])
+read_fixed fixed.Nothing q = dated q.head q.instances ++ file_end
+
+-- an instance up to its `=`
+abbrev keyed : Key → List Want → List Want
+keyed key ws = number key.number key.from ∷ equals ∷ ws
+
+abbrev read_at : Place → State → List Want
+read_at (place.Fixed f) q = read_fixed f q
+read_at place.Head q = headed q.head
+read_at (place.HeadEntry p) q = headed q.head ++ read_entry head_keyword p q.frames
+read_at place.Instances q = dated q.head q.instances
+read_at (place.Numbered key) q = dated q.head q.instances ++ number key.number key.from ∷ []
+read_at (place.Equated key) q = dated q.head q.instances ++ keyed key []
+read_at (place.Simple key p) q = dated q.head q.instances ++ keyed key (read_entry (spanned kind.Keyword) p q.frames)
+read_at (place.Opened key) q = dated q.head q.instances ++ keyed key (opening ∷ [])
+read_at (place.Complex key es p) q = dated q.head q.instances ++ keyed key (opening ∷ (flat_map entry_spelling es ++ read_entry (spanned kind.Keyword) p q.frames))
+read_at (place.Closed key es) q = dated q.head q.instances ++ keyed key (body_spelling (body.Complex es))
+
+-- what was read so far
+abbrev pub read : State → List Want
+read q = read_at q.place q
+
+abbrev pub AddsState : Lexeme → List Want → Option State → Type 0
+AddsState l ws None = Unit {0}
+AddsState l ws (Some q) = (w : Want) × IsAs w l × (read q ≡ ws ++ w ∷ [])
+
+add_fixed : (q : State) (f : Fixed) (s : Symbol) (l : Lexeme) → FitsFixed f q → Spoken s l → AddsState l (read_fixed f q) (at_place q (step_fixed f s))
+add_fixed q fixed.StartWord symbol.StartWord l h k = (start_word, k, refl)
+add_fixed q fixed.StartWord s l h k = tt
+add_fixed q fixed.StartEnd (symbol.Semicolon end) l h k = (semicolon, semicolon_ends end l k, refl)
+add_fixed q fixed.StartEnd s l h k = tt
+add_fixed q fixed.Header (symbol.Keyword p name.Header) l h k = (word (codes "HEADER"), is_header p l k, refl)
+add_fixed q fixed.Header s l h k = tt
+add_fixed q fixed.HeaderStart (symbol.Semicolon end) l h k = (semicolon, semicolon_ends end l k, ap headed h.1)
+add_fixed q fixed.HeaderStart s l h k = tt
+add_fixed q fixed.HeaderEnd (symbol.Semicolon end) l h k =
+    (semicolon, semicolon_ends end l k, sym (append_assoc (headed q.head) (word (codes "ENDSEC") ∷ []) (semicolon ∷ [])))
+add_fixed q fixed.HeaderEnd s l h k = tt
+add_fixed q fixed.Data (symbol.Keyword p name.Data) l h k = (word (codes "DATA"), is_data p l k, sym (append_assoc (headed q.head) section_end (word (codes "DATA") ∷ [])))
+add_fixed q fixed.Data s l h k = tt
+add_fixed q fixed.DataStart (symbol.Semicolon end) l h k =
+    (semicolon, semicolon_ends end l k, ap (dated q.head) h.1 ∙ sym (append_assoc (headed q.head) (section_end ++ word (codes "DATA") ∷ []) (semicolon ∷ [])))
+add_fixed q fixed.DataStart s l h k = tt
+add_fixed q fixed.DataEnd (symbol.Semicolon end) l h k =
+    (semicolon, semicolon_ends end l k, sym (append_assoc (dated q.head q.instances) (word (codes "ENDSEC") ∷ []) (semicolon ∷ [])))
+add_fixed q fixed.DataEnd s l h k = tt
+add_fixed q fixed.EndWord symbol.EndWord l h k = (end_word, k, sym (append_assoc (dated q.head q.instances) section_end (end_word ∷ [])))
+add_fixed q fixed.EndWord s l h k = tt
+add_fixed q fixed.FileEnd (symbol.Semicolon end) l h k =
+    (semicolon, semicolon_ends end l k, sym (append_assoc (dated q.head q.instances) (section_end ++ end_word ∷ []) (semicolon ∷ [])))
+add_fixed q fixed.FileEnd s l h k = tt
+add_fixed q fixed.Nothing s l h k = tt
+
+-- with no parenthesis open nothing stands before an entry
+none_before : (first : Span → Want) (frames : List Frame) (ws : List Want) → frames ≡ [] → before first frames ++ ws ≡ ws
+none_before first frames ws h = ap (λ x. before first x ++ ws) h
+
+add_head : (q : State) (s : Symbol) (l : Lexeme) → q.frames ≡ [] → Spoken s l → AddsState l (headed q.head) (at_place q (step_head s))
+add_head q (symbol.Keyword p name.EndSection) l h k = (word (codes "ENDSEC"), is_end_section p l k, refl)
+add_head q (symbol.Keyword p name.Header) l h k =
+    (head_keyword p, is_head p name.Header l (λ e. cc) k, ap (λ x. headed q.head ++ x) (none_before head_keyword q.frames (head_keyword p ∷ []) h))
+add_head q (symbol.Keyword p name.Data) l h k =
+    (head_keyword p, is_head p name.Data l (λ e. cc) k, ap (λ x. headed q.head ++ x) (none_before head_keyword q.frames (head_keyword p ∷ []) h))
+add_head q (symbol.Keyword p name.Other) l h k =
+    (head_keyword p, is_head p name.Other l (λ e. cc) k, ap (λ x. headed q.head ++ x) (none_before head_keyword q.frames (head_keyword p ∷ []) h))
+add_head q s l h k = tt
+
+add_instances : (q : State) (s : Symbol) (l : Lexeme) → Spoken s l → AddsState l (dated q.head q.instances) (at_place q (step_instances s))
+add_instances q (symbol.Number n from) l k = (number n from, k, refl)
+add_instances q (symbol.Keyword p name.EndSection) l k = (word (codes "ENDSEC"), is_end_section p l k, refl)
+add_instances q s l k = tt
+
+add_numbered : (q : State) (key : Key) (s : Symbol) (l : Lexeme) → Spoken s l
+    → AddsState l (dated q.head q.instances ++ number key.number key.from ∷ []) (at_place q (step_numbered key s))
+add_numbered q key symbol.Equals l k = (equals, k, sym (append_assoc (dated q.head q.instances) (number key.number key.from ∷ []) (equals ∷ [])))
+add_numbered q key s l k = tt
+
+add_equated : (q : State) (key : Key) (s : Symbol) (l : Lexeme) → q.frames ≡ [] → Spoken s l → AddsState l (dated q.head q.instances ++ keyed key []) (at_place q (step_equated key s))
+add_equated q key (symbol.Keyword p n) l h k = (
+    spanned kind.Keyword p,
+    (k.0, k.1),
+    ap (λ x. dated q.head q.instances ++ keyed key x) (none_before (spanned kind.Keyword) q.frames (spanned kind.Keyword p ∷ []) h)
+    ∙ sym (append_assoc (dated q.head q.instances) (keyed key []) (spanned kind.Keyword p ∷ [])),
+)
+add_equated q key symbol.Open l h k = (opening, k, sym (append_assoc (dated q.head q.instances) (keyed key []) (opening ∷ [])))
+add_equated q key s l h k = tt
+
+add_opened_instance : (q : State) (key : Key) (s : Symbol) (l : Lexeme) → q.frames ≡ [] → Spoken s l
+    → AddsState l (dated q.head q.instances ++ keyed key (opening ∷ [])) (at_place q (step_opened_instance key s))
+add_opened_instance q key (symbol.Keyword p n) l h k = (
+    spanned kind.Keyword p,
+    (k.0, k.1),
+    ap (λ x. dated q.head q.instances ++ keyed key (opening ∷ x)) (none_before (spanned kind.Keyword) q.frames (spanned kind.Keyword p ∷ []) h)
+    ∙ sym (append_assoc (dated q.head q.instances) (keyed key (opening ∷ [])) (spanned kind.Keyword p ∷ [])),
+)
+add_opened_instance q key s l h k = tt
+
+add_behind_head_entry : (q : State) (e : Entry) (s : Symbol) (l : Lexeme) → q.frames ≡ [] → Spoken s l
+    → AddsState l (headed q.head ++ read_entry head_keyword (spot.Read e) q.frames) (behind_head_entry q e s)
+add_behind_head_entry q e (symbol.Semicolon end) l h k =
+    let entry : List Want = head_keyword e.keyword ∷ arguments e.params in (
+      semicolon,
+      semicolon_ends end l k,
+      sym (flat_map_more head_spelling file_start q.head e) ∙ sym (append_assoc (headed q.head) entry (semicolon ∷ []))
+      ∙ ap (λ x. (headed q.head ++ x) ++ semicolon ∷ []) (sym (none_before head_keyword q.frames entry h)),
+    )
+add_behind_head_entry q e s l h k = tt
+
+add_behind_body : (q : State) (key : Key) (b : Body) (s : Symbol) (l : Lexeme) (ws : List Want) → Spoken s l → ws ≡ dated q.head q.instances ++ keyed key (body_spelling b)
+    → AddsState l ws (behind_body q key b s)
+add_behind_body q key b (symbol.Semicolon end) l ws k e =
+    let i : Instance = record { number = key.number; body = b; from = key.from; end = end } in (
+      ending end,
+      k,
+      ap (λ x. headed q.head ++ x) (sym (flat_map_more instance_spelling data_start q.instances i))
+      ∙ sym (append_assoc (headed q.head) (data_start ++ flat_map instance_spelling q.instances) (instance_spelling i))
+      ∙ sym (append_assoc (dated q.head q.instances) (keyed key (body_spelling b)) (ending end ∷ []))
+      ∙ ap (λ x. x ++ ending end ∷ []) (sym e),
+    )
+add_behind_body q key b s l ws k e = tt
+
+-- entries, and one more with what stands behind it
+entries_more : (es : List Entry) (e : Entry) (frames : List Frame) (w : Want) → frames ≡ []
+    → flat_map entry_spelling (es ++ e ∷ []) ++ w ∷ [] ≡ (flat_map entry_spelling es ++ read_entry (spanned kind.Keyword) (spot.Read e) frames) ++ w ∷ []
+entries_more es e frames w h =
+    ap (λ x. x ++ w ∷ []) (sym (flat_map_more entry_spelling [] es e) ∙ ap (λ x. flat_map entry_spelling es ++ x) (sym (none_before (spanned kind.Keyword) frames (entry_spelling e) h)))
+
+part_more : (q : State) (key : Key) (es : List Entry) (e : Entry) (w : Want) → q.frames ≡ []
+    → dated q.head q.instances ++ keyed key (opening ∷ (flat_map entry_spelling (es ++ e ∷ []) ++ w ∷ []))
+    ≡ (dated q.head q.instances ++ keyed key (opening ∷ (flat_map entry_spelling es ++ read_entry (spanned kind.Keyword) (spot.Read e) q.frames))) ++ w ∷ []
+part_more q key es e w h =
+    ap (λ x. dated q.head q.instances ++ keyed key (opening ∷ x)) (entries_more es e q.frames w h)
+    ∙ sym (append_assoc (dated q.head q.instances) (keyed key (opening ∷ (flat_map entry_spelling es ++ read_entry (spanned kind.Keyword) (spot.Read e) q.frames))) (w ∷ []))
+
+add_behind_part : (q : State) (key : Key) (es : List Entry) (e : Entry) (s : Symbol) (l : Lexeme) → q.frames ≡ [] → Spoken s l
+    → AddsState l (read_at (place.Complex key es (spot.Read e)) q) (behind_part q key (with_entry es e) s)
+add_behind_part q key es e (symbol.Keyword p n) l h k = (
+    spanned kind.Keyword p,
+    (k.0, k.1),
+    ap (λ x. dated q.head q.instances ++ keyed key (opening ∷ (flat_map entry_spelling (es ++ e ∷ []) ++ x))) (none_before (spanned kind.Keyword) q.frames (spanned kind.Keyword p ∷ []) h)
+    ∙ part_more q key es e (spanned kind.Keyword p) h,
+)
+add_behind_part q key es e symbol.Close l h k = (closing, k, part_more q key es e closing h)
+add_behind_part q key es e s l h k = tt
+
+-- what is added to the end of a list is added to all of it
+lift : (x v ws : List Want) (w : Want) → v ≡ ws ++ w ∷ [] → x ++ v ≡ (x ++ ws) ++ w ∷ []
+lift x v ws w e = ap (λ y. x ++ y) e ∙ sym (append_assoc x ws (w ∷ []))
+
+add_in_head : (q : State) (l : Lexeme) (ws : List Want) (o : Option Stand) → AddsStand head_keyword l ws o → AddsState l (headed q.head ++ ws) (in_entry q place.HeadEntry o)
+add_in_head q l ws None h = tt
+add_in_head q l ws (Some stand) h = (h.0, h.1, lift (headed q.head) _ ws h.0 h.2)
+
+add_in_simple : (q : State) (key : Key) (l : Lexeme) (ws : List Want) (o : Option Stand) → AddsStand (spanned kind.Keyword) l ws o
+    → AddsState l (dated q.head q.instances ++ keyed key ws) (in_entry q (place.Simple key) o)
+add_in_simple q key l ws None h = tt
+add_in_simple q key l ws (Some stand) h = (h.0, h.1, lift (dated q.head q.instances) _ (keyed key ws) h.0 (ap (keyed key) h.2))
+
+add_in_complex : (q : State) (key : Key) (es : List Entry) (l : Lexeme) (ws : List Want) (o : Option Stand) → AddsStand (spanned kind.Keyword) l ws o
+    → AddsState l (dated q.head q.instances ++ keyed key (opening ∷ (flat_map entry_spelling es ++ ws))) (in_entry q (place.Complex key es) o)
+add_in_complex q key es l ws None h = tt
+add_in_complex q key es l ws (Some stand) h = (
+    h.0,
+    h.1,
+    lift (dated q.head q.instances) _ (keyed key (opening ∷ (flat_map entry_spelling es ++ ws))) h.0
+    (ap (λ x. keyed key (opening ∷ x)) (lift (flat_map entry_spelling es) _ ws h.0 h.2)),
+)
+
+add_head_entry : (q : State) (p : Spot) (s : Symbol) (l : Lexeme) → FitsSpot p q.frames → Spoken s l → AddsState l (read_at (place.HeadEntry p) q) (step_head_entry q p s)
+add_head_entry q (spot.Read e) s l h k = add_behind_head_entry q e s l h k
+add_head_entry q (spot.Named x) s l h k = add_in_head q l _ _ (add_entry head_keyword (spot.Named x) q.frames s l k)
+add_head_entry q spot.Opened s l h k = add_in_head q l _ _ (add_entry head_keyword spot.Opened q.frames s l k)
+add_head_entry q spot.Before s l h k = add_in_head q l _ _ (add_entry head_keyword spot.Before q.frames s l k)
+add_head_entry q (spot.Typed x) s l h k = add_in_head q l _ _ (add_entry head_keyword (spot.Typed x) q.frames s l k)
+add_head_entry q (spot.Behind p) s l h k = add_in_head q l _ _ (add_entry head_keyword (spot.Behind p) q.frames s l k)
+
+add_simple : (q : State) (key : Key) (p : Spot) (s : Symbol) (l : Lexeme) → FitsSpot p q.frames → Spoken s l → AddsState l (read_at (place.Simple key p) q) (step_simple q key p s)
+add_simple q key (spot.Read e) s l h k =
+    add_behind_body q key (body.Simple e) s l _ k (ap (λ x. dated q.head q.instances ++ keyed key x) (none_before (spanned kind.Keyword) q.frames (entry_spelling e) h))
+add_simple q key (spot.Named x) s l h k = add_in_simple q key l _ _ (add_entry (spanned kind.Keyword) (spot.Named x) q.frames s l k)
+add_simple q key spot.Opened s l h k = add_in_simple q key l _ _ (add_entry (spanned kind.Keyword) spot.Opened q.frames s l k)
+add_simple q key spot.Before s l h k = add_in_simple q key l _ _ (add_entry (spanned kind.Keyword) spot.Before q.frames s l k)
+add_simple q key (spot.Typed x) s l h k = add_in_simple q key l _ _ (add_entry (spanned kind.Keyword) (spot.Typed x) q.frames s l k)
+add_simple q key (spot.Behind p) s l h k = add_in_simple q key l _ _ (add_entry (spanned kind.Keyword) (spot.Behind p) q.frames s l k)
+
+add_complex : (q : State) (key : Key) (es : List Entry) (p : Spot) (s : Symbol) (l : Lexeme) → FitsSpot p q.frames → Spoken s l
+    → AddsState l (read_at (place.Complex key es p) q) (step_complex q key es p s)
+add_complex q key es (spot.Read e) s l h k = add_behind_part q key es e s l h k
+add_complex q key es (spot.Named x) s l h k = add_in_complex q key es l _ _ (add_entry (spanned kind.Keyword) (spot.Named x) q.frames s l k)
+add_complex q key es spot.Opened s l h k = add_in_complex q key es l _ _ (add_entry (spanned kind.Keyword) spot.Opened q.frames s l k)
+add_complex q key es spot.Before s l h k = add_in_complex q key es l _ _ (add_entry (spanned kind.Keyword) spot.Before q.frames s l k)
+add_complex q key es (spot.Typed x) s l h k = add_in_complex q key es l _ _ (add_entry (spanned kind.Keyword) (spot.Typed x) q.frames s l k)
+add_complex q key es (spot.Behind p) s l h k = add_in_complex q key es l _ _ (add_entry (spanned kind.Keyword) (spot.Behind p) q.frames s l k)
+
+-- a step adds its token to what was read
+pub add_step : (q : State) (p : Place) (s : Symbol) (l : Lexeme) → FitsAt p q → Spoken s l → AddsState l (read_at p q) (step_at q p s)
+add_step q (place.Fixed f) s l h k = add_fixed q f s l h k
+add_step q place.Head s l h k = add_head q s l h.0 k
+add_step q (place.HeadEntry p) s l h k = add_head_entry q p s l h.0 k
+add_step q place.Instances s l h k = add_instances q s l k
+add_step q (place.Numbered key) s l h k = add_numbered q key s l k
+add_step q (place.Equated key) s l h k = add_equated q key s l h.0 k
+add_step q (place.Simple key p) s l h k = add_simple q key p s l h.0 k
+add_step q (place.Opened key) s l h k = add_opened_instance q key s l h.0 k
+add_step q (place.Complex key es p) s l h k = add_complex q key es p s l h.0 k
+add_step q (place.Closed key es) s l h k = add_behind_body q key (body.Complex es) s l _ k refl
