@@ -33,12 +33,7 @@ pub fn number_in(source: &[u8], token: &Token) -> u64
 pub fn look(known: &[Known], number: u64) -> Option<Known>
     ensures { result ≡ look known.now number }
 {
-    for line in known {
-        if line.number == number {
-            return Some(*line);
-        }
-    }
-    None
+    known.iter().copied().find(|line| line.number == number)
 }
 
 fn is_fresh(known: &[Known], number: u64) -> bool
