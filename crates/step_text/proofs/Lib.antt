@@ -10,3 +10,4 @@ pub mod Ends
 pub mod Box
 pub mod Filling
 pub mod Faults
+pub mod Names
