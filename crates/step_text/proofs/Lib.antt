@@ -11,3 +11,4 @@ pub mod Box
 pub mod Filling
 pub mod Faults
 pub mod Names
+pub mod Reading
