@@ -12,3 +12,5 @@ pub mod Filling
 pub mod Faults
 pub mod Names
 pub mod Reading
+pub mod Kept
+pub mod Soundness

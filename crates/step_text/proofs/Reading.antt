@@ -18,7 +18,7 @@ use Rattle.step_text.specs.Wide.{IfNotBuilt, IsRead, AreReadToShape, DepartsBehi
 use Rattle.step_text.specs.declared.wide_fault.WideFault.{WideFault}
 use Rattle.step_text.specs.declared.wide_fault.WideFault.TheVariants.{NotBuilt, NoMemory}
 
-or_then-none : (a : Option ℕ) → or_then a None ≡ a
+pub or_then-none : (a : Option ℕ) → or_then a None ≡ a
 or_then-none None = refl
 or_then-none (Some a) = refl
 
@@ -31,11 +31,11 @@ pub second_same : (a b c : Option ℕ) → (a ≡ None → b ≡ c) → or_then 
 second_same None b c h = h refl
 second_same (Some a) b c h = refl
 
-first_none : (a b : Option ℕ) → or_then a b ≡ None → a ≡ None
+pub first_none : (a b : Option ℕ) → or_then a b ≡ None → a ≡ None
 first_none None b e = refl
 first_none (Some a) b e = e
 
-known_more : (known : List Known) (lines : List PlainLine) (line : PlainLine)
+pub known_more : (known : List Known) (lines : List PlainLine) (line : PlainLine)
     → known_after known (lines ++ line ∷ []) ≡ known_after known lines ++ entry (known_after known lines) line ∷ []
 known_more known [] line = refl
 known_more known (l ∷ lines) line = known_more (known ++ entry known l ∷ []) lines line
