@@ -115,8 +115,8 @@ fn read_line(
     requires word { head.now.word.end ≤ length source.now }
     ensures form { MatchResult result
         (λ end. (from : ℕ) → (at : ℕ) → IsHead source.now at head.now.name head.now.word → begun source.now head.now.name head.now.word ≡ Solid kind
-            → IsRead source.now from at book.old.lines.items book.old.known.items book.old.broken
-            → IsRead source.now from end book.new.lines.items book.new.known.items book.new.broken)
+        → IsRead source.now from at book.old.lines.items book.old.known.items book.old.broken
+        → IsRead source.now from end book.new.lines.items book.new.known.items book.new.broken)
         (λ fault. IfNotBuilt fault (Misses (line_slots kind) source.now head.now.word.end)) }
     ensures within { IfOk result (λ end. (head.now.word.end ≤ end) × (end ≤ length source.now)) }
 {
