@@ -7,3 +7,7 @@ pub mod Lexemes
 pub mod Grammar
 pub mod Files
 pub mod Canonical
+pub mod Slots
+pub mod Lines
+pub mod Rules
+pub mod Sound

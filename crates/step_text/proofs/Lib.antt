@@ -23,3 +23,9 @@ pub mod Schemas
 pub mod Glue
 pub mod Repeats
 pub mod HasRead
+pub mod Filling
+pub mod Faults
+pub mod Names
+pub mod Reading
+pub mod Kept
+pub mod Soundness

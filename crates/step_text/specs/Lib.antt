@@ -4,3 +4,4 @@ pub mod Answers
 pub mod Reading
 pub mod Schemas
 pub mod Printing
+pub mod Wide
