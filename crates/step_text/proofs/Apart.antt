@@ -1,6 +1,6 @@
 -- In a file, behind each token but a mark stands a mark.
-use Rattle.std.proofs.Common.{◌≡◌, Bool, true, false, ◌&&◌, ◌||◌, List, [], ◌∷◌, ◌++◌, map, refl, sym, ◌∙◌, ap, subst, inl, inr, append_assoc}
-use Rattle.std.proofs.lemmas.Bool.{true≢false, and_parts, or_cases}
+use Rattle.std.proofs.Common.{◌≡◌, Bool, true, false, ◌&&◌, ◌||◌, List, [], ◌∷◌, ◌++◌, map, refl, sym, ◌∙◌, ap, subst, append_assoc}
+use Rattle.std.proofs.lemmas.Bool.{true≢false, and_parts}
 use Rattle.std.specs.List.{AllZip, flat_map}
 use Rattle.spec_step.specs.Lexemes.{Lexeme}
 use Rattle.spec_step.specs.Files.{is_mark_kind}

@@ -1,10 +1,9 @@
 -- A keyword in capitals is a keyword, of the same letters.
-use Rattle.std.proofs.Common.{◌≡◌, ℕ, ◌-◌, ◌<◌, ◌≤◌, Bool, true, false, ◌==◌, ◌&&◌, ◌||◌, List, [], ◌∷◌, map, refl, sym, ◌∙◌, ap, arith, cond, inl, inr, ◌⊎◌}
-use Rattle.std.proofs.lemmas.Bool.{cases_lt}
+use Rattle.std.proofs.Common.{◌≡◌, ℕ, true, ◌==◌, ◌&&◌, ◌||◌, List, [], ◌∷◌, refl, ◌∙◌, ap, arith, cond}
 use Rattle.std.proofs.lemmas.Bool.Decides.{nat_tests}
 use Rattle.std.specs.Char.{to_ascii_uppercase, to_ascii_lowercase}
 use Rattle.std.specs.Str.{str_to_ascii_uppercase, str_to_ascii_lowercase, str_eq_ignore_ascii_case, bytes_eq}
-use Rattle.spec_step.specs.Spelling.{is_letter, is_word, done, one, maybe, many, is_spelled}
+use Rattle.spec_step.specs.Spelling.{is_letter, is_word, done, one, many, is_spelled}
 use Rattle.spec_step.specs.Form.{is_keyword}
 use Rattle.spec_step.specs.Files.{is_mark_kind}
 use Rattle.spec_step.specs.declared.token.TokenKind.{TokenKind}

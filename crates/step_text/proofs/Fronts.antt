@@ -1,15 +1,15 @@
 -- Two fronts of a text, as tokens: they are one, or one goes on behind the other; and no front goes on behind a fault.
-use Rattle.std.proofs.Common.{◌≡◌, ℕ, ◌+◌, ◌<◌, ◌≤◌, List, [], ◌∷◌, ◌++◌, All, refl, sym, ◌∙◌, ap, arith, subst, inl, inr, ◌⊎◌, append_assoc}
+use Rattle.std.proofs.Common.{◌≡◌, ℕ, ◌≤◌, List, [], ◌∷◌, ◌++◌, All, refl, sym, ◌∙◌, ap, arith, subst, inl, inr, ◌⊎◌, append_assoc}
 use Rattle.std.proofs.lemmas.List.Elements.{All-append}
 use Rattle.spec_step.specs.Gaps.{IsNext}
-use Rattle.spec_step.specs.Lexemes.{Lexeme, lexeme_of, IsToken, Reads, HasTokens}
+use Rattle.spec_step.specs.Lexemes.{Lexeme, lexeme_of, IsToken, Reads}
 use Rattle.spec_step.specs.Grammar.{IsDerived}
 use Rattle.spec_step.specs.Files.{IsShallow, BeginsFile, BreaksOff, open_behind}
 use Rattle.spec_step.specs.declared.token.Token.{Token}
 use Rattle.spec_step.specs.declared.token.TokenStep.{TokenStep}
-use Rattle.spec_step.specs.declared.token.TokenStep.TheVariants.{Got, Bad, End}
+use Rattle.spec_step.specs.declared.token.TokenStep.TheVariants.{Got, End}
 use Rattle.step_text.proofs.Unique.{one_next}
-use Rattle.step_text.proofs.Glue.{reads_tokens, token_kind}
+use Rattle.step_text.proofs.Glue.{reads_tokens}
 
 pub one_got : (s : List ℕ) (at : ℕ) (t u : Token) → IsNext s at (Got t) → IsNext s at (Got u) → t ≡ u
 one_got s at t u p q = let e : Got t ≡ Got u = one_next s at (Got t) (Got u) p q in cc

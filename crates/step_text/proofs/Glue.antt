@@ -1,13 +1,9 @@
 -- The reading loop, by the laws of the machine.
-use Rattle.std.proofs.Common.{◌≡◌, ℕ, ◌+◌, ◌-◌, ◌<◌, ◌≤◌, List, [], ◌∷◌, ◌++◌, Option, Some, None, All, length, drop, take, refl, sym, ◌∙◌, ap, arith, subst, Bool, true, false, codes, if◌then◌else◌, inl, inr, ◌⊎◌, map, reverse, length-drop, append-nil, append_assoc}
-use Rattle.spec_step.specs.Spelling.{is_spelled}
+use Rattle.std.proofs.Common.{◌≡◌, ℕ, ◌+◌, ◌-◌, ◌<◌, ◌≤◌, List, [], ◌∷◌, ◌++◌, Some, None, All, length, refl, sym, ◌∙◌, ap, arith, subst, Bool, true, false, codes, if◌then◌else◌, inl, inr, ◌⊎◌, map, reverse, append-nil}
 use Rattle.spec_step.specs.Gaps.{IsNext}
-use Rattle.spec_step.specs.Form.{place_of}
-use Rattle.spec_step.specs.Lexemes.{Lexeme, lexeme_of, IsToken, Reads, HasTokens}
-use Rattle.spec_step.specs.Files.{IsFile, IsShallow, IsCause, HasSyntaxFault, HasNestedFault, BeginsFile, BreaksOff, open_behind, open_after, is_mark_of}
-use Rattle.spec_step.specs.Grammar.{IsDerived}
+use Rattle.spec_step.specs.Lexemes.{Lexeme, lexeme_of, IsToken, Reads}
+use Rattle.spec_step.specs.Files.{IsFile, IsShallow, HasSyntaxFault, HasNestedFault, open_behind, open_after, is_mark_of}
 use Rattle.spec_step.specs.declared.token.Token.{Token}
-use Rattle.spec_step.specs.declared.token.TokenStep.{TokenStep}
 use Rattle.spec_step.specs.declared.token.TokenStep.TheVariants.{Got, Bad, End}
 use Rattle.spec_step.specs.declared.tree.Entry.{Entry}
 use Rattle.spec_step.specs.declared.tree.Instance.{Instance}
@@ -16,7 +12,6 @@ use Rattle.spec_step.specs.declared.fault.StepFault.TheVariants.{Syntax, Nested,
 use Rattle.step_grammar.specs.Symbols.{symbol_of}
 use Rattle.step_grammar.specs.Places.{State, start, step, run_on, open_at}
 use Rattle.step_grammar.specs.Runs.{runs, whole}
-use Rattle.step_grammar.specs.declared.symbol.Symbol.{Symbol}
 use Rattle.step_text.specs.Answers.{IsCauseOrWant}
 use Rattle.step_text.specs.Reading.{Goes, Halts}
 use Rattle.step_text.proofs.HasRead.{HasRead}

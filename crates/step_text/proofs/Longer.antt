@@ -1,8 +1,8 @@
 -- A token with a mark behind it is the longest token there, and so is a mark with anything behind it.
-use Rattle.std.proofs.Common.{◌≡◌, ℕ, ◌+◌, ◌-◌, ◌<◌, ◌≤◌, suc, zero, Bool, true, false, ◌==◌, ◌&&◌, ◌||◌, not, List, [], ◌∷◌, ◌++◌, length, take, drop, Option, Some, None, refl, sym, ◌∙◌, ap, arith, subst, inl, inr, ◌⊎◌, length-append, append-nil, cond}
-use Rattle.std.proofs.lemmas.Bool.{true≢false, cases_lt, cases_Bool, or_cases, eqb-true, and_parts}
+use Rattle.std.proofs.Common.{◌≡◌, ℕ, ◌+◌, ◌-◌, ◌≤◌, suc, Bool, true, false, ◌==◌, ◌||◌, List, [], ◌∷◌, ◌++◌, length, take, Option, Some, None, refl, sym, ◌∙◌, ap, arith, subst, inl, inr, length-append, append-nil, cond}
+use Rattle.std.proofs.lemmas.Bool.{true≢false, cases_lt, or_cases, eqb-true, and_parts}
 use Rattle.std.proofs.Math.Seq.{take-append_seam, take-append-add}
-use Rattle.spec_step.specs.Spelling.{is_mark, is_letter, by_class, is_spelled, done, one}
+use Rattle.spec_step.specs.Spelling.{is_mark, by_class, is_spelled, done}
 use Rattle.spec_step.specs.Gaps.{is_blank}
 use Rattle.spec_step.specs.Files.{is_mark_kind}
 use Rattle.spec_step.specs.Longest.{IsLongest}
@@ -11,8 +11,8 @@ use Rattle.spec_step.specs.declared.token.TokenKind.TheVariants as kind
 use Rattle.step_text.specs.declared.machine.State.{State}
 use Rattle.step_text.specs.declared.machine.State.TheVariants.{Start, Bang, Word, Hash, Number, Sign, Digits, Fraction, Exponent, ExponentSign, ExponentDigits, Quoted, Quote, Point, Name, NameEnd, BinaryStart, BinaryDigits, BinaryEnd, Mark}
 use Rattle.step_text.specs.Machine.{step_of, accepted}
-use Rattle.step_text.proofs.Residual.{residual, after, steps, ends, takes}
-use Rattle.step_text.proofs.Words.{start_word, end_word, start_longest, end_longest}
+use Rattle.step_text.proofs.Residual.{after, steps, ends, takes}
+use Rattle.step_text.proofs.Words.{start_longest, end_longest}
 use Rattle.step_text.proofs.Unique.{same_kind, Spelt, spelt}
 
 -- the state behind some bytes

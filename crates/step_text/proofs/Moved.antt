@@ -1,6 +1,6 @@
 -- The trees of a file with their spans on the page are those of the page.
-use Rattle.std.proofs.Common.{◌≡◌, ℕ, ◌+◌, ◌<◌, ◌≤◌, Bool, true, false, ◌==◌, ◌&&◌, List, [], ◌∷◌, ◌++◌, length, drop, ◌-◌, get_or, map, refl, sym, ◌∙◌, ap, arith, subst, inl, inr, cond, codes, All}
-use Rattle.std.proofs.lemmas.Bool.{true≢false, cases_Bool, eqb-true, eq-eqb}
+use Rattle.std.proofs.Common.{◌≡◌, ℕ, ◌+◌, ◌<◌, ◌≤◌, false, ◌==◌, ◌&&◌, List, [], ◌∷◌, ◌++◌, length, drop, ◌-◌, get_or, map, refl, sym, ◌∙◌, ap, arith, subst, inl, inr, cond, codes, All}
+use Rattle.std.proofs.lemmas.Bool.{cases_Bool, eqb-true, eq-eqb}
 use Rattle.std.proofs.lemmas.List.{map-append}
 use Rattle.std.proofs.lemmas.Simd.{map-map}
 use Rattle.std.proofs.lemmas.List.Elements.{All-map}
@@ -8,19 +8,16 @@ use Rattle.std.specs.List.{AllZip, AllByRecursion, flat_map}
 use Rattle.std.specs.Str.{str_to_ascii_uppercase, str_eq_ignore_ascii_case, bytes_eq}
 use Rattle.spec_num.specs.Decimals.{value}
 use Rattle.spec_step.specs.Form.{is_keyword}
-use Rattle.spec_step.specs.Gaps.{IsNext}
 use Rattle.spec_step.specs.Spans.{bytes_at}
-use Rattle.spec_step.specs.Lexemes.{Lexeme, lexeme_of, IsToken, Reads, HasTokens}
+use Rattle.spec_step.specs.Lexemes.{Lexeme, lexeme_of, Reads}
 use Rattle.spec_step.specs.Files.{IsShallow, open_after, open_behind, is_mark_kind, is_mark_of}
 use Rattle.spec_step.specs.Canonical.{printed, line_end, layer_moved, moved, moved_entry, moved_body, moved_instance}
-use Rattle.spec_step.specs.Grammar.{Want, start_word, end_word, word, mark, spanned, head_keyword, reference, number, ending, opening, closing, semicolon, is_word, IsAs, further, members, layer_spelling, spelling, arguments, entry_spelling, head_spelling, body_spelling, instance_spelling, file_start, data_start, file_end, file_spelling, HasEntry}
+use Rattle.spec_step.specs.Grammar.{Want, start_word, end_word, word, mark, spanned, head_keyword, reference, number, ending, opening, closing, semicolon, is_word, IsAs, further, members, layer_spelling, spelling, entry_spelling, head_spelling, body_spelling, instance_spelling, file_start, data_start, file_end, file_spelling, HasEntry}
 use Rattle.spec_step.specs.declared.token.Span.{Span}
 use Rattle.spec_step.specs.declared.token.Token.{Token}
 use Rattle.spec_step.specs.declared.token.TokenKind.{TokenKind}
 use Rattle.spec_step.specs.declared.token.TokenKind.TheVariants as kind
-use Rattle.spec_step.specs.declared.token.TokenStep.TheVariants.{Got}
 use Rattle.spec_step.specs.declared.tree.Param.{Param}
-use Rattle.spec_step.specs.declared.tree.Param.TheVariants as param
 use Rattle.spec_step.specs.declared.tree.Param.TheOpen.{Param-F}
 use Rattle.spec_step.specs.declared.tree.Param.TheOpen as layer
 use Rattle.spec_step.specs.declared.tree.Param.TheViews.{roll-Param}

@@ -1,10 +1,10 @@
 -- A text has one answer: it is accepted with one pair of lists, or refused with one cause.
-use Rattle.std.proofs.Common.{◌≡◌, ℕ, ◌+◌, ◌<◌, ◌≤◌, List, [], ◌∷◌, ◌++◌, Option, Some, None, Result, Ok, Err, IfErr, IsErrAnd, All, append-nil, refl, sym, ◌∙◌, ap, arith, subst, inl, inr, ◌⊎◌}
+use Rattle.std.proofs.Common.{◌≡◌, ℕ, List, [], ◌∷◌, ◌++◌, Some, Result, Ok, Err, IsErrAnd, append-nil, refl, sym, ◌∙◌, ap, subst, inl, inr, ◌⊎◌}
 use Rattle.spec_step.specs.Gaps.{IsNext}
 use Rattle.spec_step.specs.Lexemes.{Lexeme, lexeme_of, IsToken, Reads, HasTokens}
 use Rattle.spec_step.specs.Grammar.{IsDerived}
 use Rattle.spec_step.specs.Form.{place_of}
-use Rattle.spec_step.specs.Files.{IsFile, IsAccepted, IsCause, NamesSchema, HasDistinctNumbers, RepeatsFirst, BeginsFile, BreaksOff, IsShallow, HasSyntaxFault, HasNestedFault, LacksSchema, HasDuplicate}
+use Rattle.spec_step.specs.Files.{IsFile, IsAccepted, IsCause, NamesSchema, RepeatsFirst, BeginsFile, BreaksOff, HasSyntaxFault, HasNestedFault, LacksSchema, HasDuplicate}
 use Rattle.spec_step.specs.declared.token.Token.{Token}
 use Rattle.spec_step.specs.declared.token.TokenStep.{TokenStep}
 use Rattle.spec_step.specs.declared.token.TokenStep.TheVariants.{Got, Bad, End}
@@ -12,15 +12,14 @@ use Rattle.spec_step.specs.declared.tree.Entry.{Entry}
 use Rattle.spec_step.specs.declared.tree.Instance.{Instance}
 use Rattle.spec_step.specs.declared.fault.StepFault.{StepFault}
 use Rattle.spec_step.specs.declared.fault.StepFault.TheVariants.{Syntax, Nested, Schema, DuplicateNumber, NoMemory}
-use Rattle.step_grammar.specs.Places.{State}
 use Rattle.step_grammar.specs.Runs.{runs, whole}
 use Rattle.step_text.specs.Answers.{IsCauseOrWant, IsOkOrWant, IsFaultOrWant}
 use Rattle.std.proofs.Math.Logic.{∥∥₁_elim}
 use Rattle.std.proofs.lemmas.List.Elements.{All-nil}
 use Rattle.step_text.proofs.Unique.{one_next}
 use Rattle.step_text.proofs.Laws.{complete}
-use Rattle.step_text.proofs.Fronts.{one_got, got_or_end, GoesOn, Fronts, fronts, begins_front, broken, too_deep}
-use Rattle.step_text.proofs.Glue.{reads_tokens, token_kind}
+use Rattle.step_text.proofs.Fronts.{one_got, got_or_end, Fronts, fronts, begins_front, broken, too_deep}
+use Rattle.step_text.proofs.Glue.{reads_tokens}
 use Rattle.step_text.proofs.Repeats.{one_repeat, no_repeat}
 
 -- the tokens from a place to the end of a text are one list

@@ -1,22 +1,21 @@
 -- The printed tokens of a text, where they stand on the page, and that they are the tokens of the page.
-use Rattle.std.proofs.Common.{◌≡◌, ℕ, ◌+◌, ◌-◌, ◌<◌, ◌≤◌, suc, zero, Bool, true, false, ◌&&◌, ◌||◌, List, [], ◌∷◌, ◌++◌, length, take, drop, refl, sym, ◌∙◌, ap, arith, subst, inl, inr, ◌⊎◌, cond, codes, slice_index, length-append, append_assoc, append-nil}
-use Rattle.std.proofs.lemmas.Bool.{true≢false, cases_Bool, or_cases, and_parts}
+use Rattle.std.proofs.Common.{◌≡◌, ℕ, ◌+◌, ◌-◌, suc, zero, Bool, true, false, ◌&&◌, ◌||◌, List, [], ◌∷◌, ◌++◌, length, take, drop, refl, sym, ◌∙◌, ap, arith, subst, inl, inr, cond, codes, slice_index, length-append, append_assoc, append-nil}
+use Rattle.std.proofs.lemmas.Bool.{true≢false, cases_Bool, and_parts}
 use Rattle.std.proofs.lemmas.List.{get_or_at}
 use Rattle.std.proofs.Math.Seq.{take-append_seam, drop-append_seam}
 use Rattle.std.specs.List.{AllByRecursion}
 use Rattle.std.specs.Str.{bytes_eq}
-use Rattle.spec_step.specs.Spelling.{is_mark, is_spelled, done}
-use Rattle.spec_step.specs.Gaps.{is_blank, IsPiece, IsBlankAt, Pieces, Between, GapEnds, IsNext}
+use Rattle.spec_step.specs.Spelling.{is_mark, is_spelled}
+use Rattle.spec_step.specs.Gaps.{is_blank, IsPiece, Between, IsNext}
 use Rattle.spec_step.specs.Longest.{IsLongest}
-use Rattle.spec_step.specs.Lexemes.{Lexeme, lexeme_of, IsToken, Reads}
+use Rattle.spec_step.specs.Lexemes.{Lexeme, IsToken, Reads}
 use Rattle.spec_step.specs.Files.{is_mark_kind, is_mark_of}
 use Rattle.spec_step.specs.Canonical.{printed, line_end, canonical}
-use Rattle.spec_step.specs.declared.token.Span.{Span}
 use Rattle.spec_step.specs.declared.token.Token.{Token}
 use Rattle.spec_step.specs.declared.token.TokenKind.{TokenKind}
 use Rattle.spec_step.specs.declared.token.TokenKind.TheVariants as kind
-use Rattle.spec_step.specs.declared.token.TokenStep.TheVariants.{Got, Bad, End}
-use Rattle.step_text.proofs.Capitals.{printed_text, printed_spelled, printed_twice, printed_mark}
+use Rattle.spec_step.specs.declared.token.TokenStep.TheVariants.{Got, End}
+use Rattle.step_text.proofs.Capitals.{printed_spelled, printed_twice, printed_mark}
 use Rattle.step_text.proofs.Longer.{is_next, token_longest, some_byte, begins_gap, no_gap, mark_kind}
 use Rattle.step_text.proofs.Apart.{starts_mark, is_apart}
 

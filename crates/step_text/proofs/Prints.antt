@@ -1,5 +1,5 @@
 -- The canonical spelling grows by a token.
-use Rattle.std.proofs.Common.{◌≡◌, ℕ, ◌+◌, ◌<◌, ◌≤◌, List, [], ◌∷◌, ◌++◌, refl, sym, ◌∙◌, ap, arith, subst, Bool, true, All, append_assoc, append-nil}
+use Rattle.std.proofs.Common.{◌≡◌, ℕ, List, [], ◌∷◌, ◌++◌, refl, sym, ◌∙◌, ap, subst, true, All, append_assoc, append-nil}
 use Rattle.spec_step.specs.Gaps.{IsNext}
 use Rattle.spec_step.specs.Lexemes.{Lexeme, lexeme_of, IsToken, Reads, HasTokens}
 use Rattle.spec_step.specs.Canonical.{printed, line_end, canonical, IsCanonical, IsReprint}
@@ -10,15 +10,14 @@ use Rattle.std.specs.List.{AllZip}
 use Rattle.std.proofs.Math.Logic.{∥∥₁_elim, ∥∥₁_map}
 use mathlib.Core.Bool.{Bool-set}
 use Rattle.spec_step.specs.declared.token.Token.{Token}
-use Rattle.spec_step.specs.declared.token.TokenStep.{TokenStep}
-use Rattle.spec_step.specs.declared.token.TokenStep.TheVariants.{Got, Bad, End}
+use Rattle.spec_step.specs.declared.token.TokenStep.TheVariants.{Got}
 use Rattle.spec_step.specs.declared.tree.Entry.{Entry}
 use Rattle.spec_step.specs.declared.tree.Instance.{Instance}
 use Rattle.step_text.specs.Printing.{printed_token}
 use Rattle.step_text.proofs.Glue.{reads_more, reads_tokens}
 use Rattle.step_text.proofs.Apart.{is_apart, derived_apart}
 use Rattle.step_text.proofs.OneAnswer.{one_text}
-use Rattle.step_text.proofs.Moved.{move, moved_want, IsPrinted, starts, ends, all_printed, all_moved, all_texts, file_carried, shallow_moved, entries_moved}
+use Rattle.step_text.proofs.Moved.{move, IsPrinted, starts, ends, all_printed, all_moved, all_texts, file_carried, shallow_moved, entries_moved}
 use Rattle.step_text.proofs.Placed.{placed, page_tokens, canonical_placed}
 use Rattle.std.proofs.lemmas.List.Elements.{recursion_from_All, All-from_recursion}
 

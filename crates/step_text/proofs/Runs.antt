@@ -1,5 +1,5 @@
 -- Runs of the machine of places.
-use Rattle.std.proofs.Common.{◌≡◌, List, [], ◌∷◌, ◌++◌, Option, Some, None, map, refl, sym, ◌∙◌, ap}
+use Rattle.std.proofs.Common.{◌≡◌, List, [], ◌∷◌, ◌++◌, Option, Some, None, map, refl, ◌∙◌, ap}
 use Rattle.spec_step.specs.Lexemes.{Lexeme}
 use Rattle.step_grammar.specs.Symbols.{symbol_of}
 use Rattle.step_grammar.specs.Places.{State, start, step, run_on}

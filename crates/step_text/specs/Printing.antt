@@ -2,7 +2,6 @@
 use Rattle.std.specs.Prelude.{ℕ, List, ◌++◌}
 use Rattle.spec_step.specs.Lexemes.{Lexeme}
 use Rattle.spec_step.specs.Canonical.{printed, line_end}
-use Rattle.spec_step.specs.declared.token.Span.{Span}
 use Rattle.spec_step.specs.declared.token.TokenKind.{TokenKind}
 
 abbrev pub printed_token : TokenKind → List ℕ → List ℕ

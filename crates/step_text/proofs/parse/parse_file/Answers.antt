@@ -1,4 +1,4 @@
-use Rattle.std.proofs.Common.{◌≡◌, ◌⊎◌, inl, inr, rules}
+use Rattle.std.proofs.Common.{rules}
 use Rattle.spec_step.specs.Files.{IsAccepted}
 use Rattle.step_text.specs.Answers.{IsCauseOrWant}
 use Rattle.spec_step.specs.declared.fault.StepFault.TheVariants.{Schema, DuplicateNumber}

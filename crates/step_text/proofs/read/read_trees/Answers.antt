@@ -1,7 +1,7 @@
-use Rattle.std.proofs.Common.{◌≡◌, List, arith, refl, sym, subst, ap, ◌∙◌}
+use Rattle.std.proofs.Common.{arith, sym, subst}
 use Rattle.step_text.specs.Answers.{IsCauseOrWant}
 use Rattle.step_text.proofs.HasRead.{HasRead}
-use Rattle.step_text.proofs.Glue.{gives, end_file, end_fault, nothing_read, start_state, bad_cause, whole_file, end_cause, halt_cause, read_more, token_end}
+use Rattle.step_text.proofs.Glue.{gives, end_file, end_fault, nothing_read, start_state, bad_cause, halt_cause, read_more, token_end}
 use Rattle.step_text.proofs.read.read_trees.Goals as goal
 
 pub tokens-init : goal.tokens-init
