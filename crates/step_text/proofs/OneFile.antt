@@ -1,10 +1,11 @@
 -- A text is at most one file of solid lines, departs from the form at one place at most, and does not do both.
-use Rattle.std.proofs.Common.{ℕ, ◌≡◌, true, false, List, [], ◌∷◌, map, refl, sym, ◌∙◌, ap, subst, inl, inr, ◌⊎◌, codes}
+use Rattle.std.proofs.Common.{ℕ, ◌≡◌, true, false, List, [], ◌∷◌, map, Some, None, refl, sym, ◌∙◌, ap, subst, inl, inr, ◌⊎◌, codes}
 use Rattle.std.proofs.lemmas.Bool.{true≢false}
 use Rattle.spec_step.specs.Gaps.{IsNext}
 use Rattle.spec_step.specs.Form.{place_of, HasForm, Departs}
 use Rattle.spec_step.specs.Slots.{passes, step_passes, kept, is_text, Fills, Misses}
-use Rattle.spec_step.specs.Lines.{Stated, IsHead, IsLineAt, AreLinesAt, IsShapeAt, IsFile, DepartsBehind, DepartsAt, DepartsFile, Says, begun, kind_of, span_of, number_in, head_slots, line_slots, before_lines, shape_form}
+use Rattle.spec_step.specs.Lines.{Stated, IsHead, IsLineAt, AreLinesAt, IsShapeAt, IsFile, DepartsBehind, DepartsAt, DepartsFile, Says, begun, kind_of, span_of, named, number_in, head_slots, line_slots, before_lines, shape_form}
+use Rattle.spec_step.specs.Rules.{said, first_break, IsKept, BreaksAt}
 use Rattle.spec_step.specs.declared.token.Token.{Token}
 use Rattle.spec_step.specs.declared.token.Span.{Span}
 use Rattle.spec_step.specs.declared.token.TokenStep.{TokenStep}
@@ -186,3 +187,35 @@ no_both s lines item p h (inr k) =
     (λ at l to a b. line_or_departs s at l to p b a)
     (λ l ls ks e. e)
     lines k.1 h.from h.to k.2 h.solids h.shape (subst (λ x. AreLinesAt s x k.1 k.2) (one_follow before_lines s 0 k.0 h.from k.3 h.before) k.4) k.5
+
+-- so what is read of a text in which no rule is broken is one
+pub one_reading : (s : List ℕ) (lines others : List PlainLine) (item other : ℕ) → IsKept s lines item → IsKept s others other → (lines ≡ others) × (item ≡ other)
+one_reading s lines others item other p q =
+    let same = one_file s p.stated q.stated p.name q.name p.file q.file in
+    (p.lines_said ∙ ap said same.0 ∙ sym q.lines_said, p.item_said ∙ ap (named s) same.1 ∙ sym q.item_said)
+
+same_break : (s : List ℕ) (lines others : List Stated) (item other : Span) → IsFile s lines item → IsFile s others other → first_break s lines item ≡ first_break s others other
+same_break s lines others item other p q =
+    let same = one_file s lines others item other p q in
+    ap (λ x. first_break s x item) same.0 ∙ ap (first_break s others) same.1
+
+one_break : (s : List ℕ) (p q : ℕ) → BreaksAt s p → BreaksAt s q → p ≡ q
+one_break s p q (lines, item, file, is) (others, other, file', is') =
+    let same : first_break s lines item ≡ first_break s others other = same_break s lines others item other file file' in
+    let places : Some p ≡ Some q = sym is ∙ same ∙ is' in
+    cc
+
+-- a text is refused at one place
+pub one_refusal : (s : List ℕ) (p q : ℕ) → DepartsFile s p ⊎ BreaksAt s p → DepartsFile s q ⊎ BreaksAt s q → p ≡ q
+one_refusal s p q (inl h) (inl k) = one_place s p q h k
+one_refusal s p q (inl h) (inr k) = absurd (no_both s k.0 k.1 p k.2 h)
+one_refusal s p q (inr h) (inl k) = absurd (no_both s h.0 h.1 q h.2 k)
+one_refusal s p q (inr h) (inr k) = one_break s p q h k
+
+-- and one that is refused is not read
+pub kept_or_refused : (s : List ℕ) (lines : List PlainLine) (item p : ℕ) → IsKept s lines item → DepartsFile s p ⊎ BreaksAt s p → ⊥
+kept_or_refused s lines item p h (inl k) = no_both s h.stated h.name p h.file k
+kept_or_refused s lines item p h (inr k) =
+    let same : first_break s h.stated h.name ≡ first_break s k.0 k.1 = same_break s h.stated k.0 h.name k.1 h.file k.2 in
+    let none : None ≡ Some p = sym h.kept ∙ same ∙ k.3 in
+    absurd (cc)
