@@ -2,7 +2,7 @@
 use Rattle.std.proofs.Common.{ℕ, ◌≡◌, true, false, List, [], ◌∷◌, map, Some, None, refl, sym, ◌∙◌, ap, subst, inl, inr, ◌⊎◌, codes}
 use Rattle.std.proofs.lemmas.Bool.{true≢false}
 use Rattle.spec_step.specs.Gaps.{IsNext}
-use Rattle.spec_step.specs.Form.{place_of, HasForm, Departs}
+use Rattle.spec_step.specs.Form.{place_of, HasForm}
 use Rattle.spec_step.specs.Slots.{passes, step_passes, kept, is_text, Fills, Misses}
 use Rattle.spec_step.specs.Lines.{Stated, IsHead, IsLineAt, AreLinesAt, IsShapeAt, IsFile, DepartsBehind, DepartsAt, DepartsFile, Says, begun, kind_of, span_of, named, number_in, head_slots, line_slots, before_lines, shape_form}
 use Rattle.spec_step.specs.Rules.{said, first_break, IsKept, BreaksAt}
@@ -11,7 +11,6 @@ use Rattle.spec_step.specs.declared.token.Span.{Span}
 use Rattle.spec_step.specs.declared.token.TokenStep.{TokenStep}
 use Rattle.spec_step.specs.declared.token.TokenStep.TheVariants.{Got}
 use Rattle.spec_step.specs.declared.line.Slot.{Slot}
-use Rattle.spec_step.specs.declared.line.LineKind.{LineKind}
 use Rattle.spec_step.specs.declared.line.PlainLine.{PlainLine}
 use Rattle.spec_step.specs.declared.line.PlainLine.TheVariants.{Point, Axes, Block, Rect, Prism, Combine}
 use Rattle.spec_step.specs.declared.line.Begun.{Begun}
