@@ -1,9 +1,8 @@
 -- From each place some tokens lead behind the last semicolon of a file.
-use Rattle.std.proofs.Common.{◌≡◌, ℕ, List, [], ◌∷◌, ◌++◌, Option, Some, None, All, map, codes, refl, sym, ◌∙◌, ap, subst}
+use Rattle.std.proofs.Common.{◌≡◌, ℕ, List, [], ◌∷◌, ◌++◌, Some, All, map, codes, refl, sym, ◌∙◌, ap, subst}
 use Rattle.std.proofs.lemmas.List.Elements.{All-nil, All-cons, All-append}
 use Rattle.spec_step.specs.Lexemes.{Lexeme, IsToken}
 use Rattle.spec_step.specs.Files.{BeginsFile}
-use Rattle.spec_step.specs.declared.token.Span.{Span}
 use Rattle.spec_step.specs.declared.token.TokenKind.{TokenKind}
 use Rattle.spec_step.specs.declared.token.TokenKind.TheVariants as kind
 use Rattle.spec_step.specs.declared.tree.Param.{Param}
@@ -13,7 +12,7 @@ use Rattle.spec_step.specs.declared.tree.Body.TheVariants as body
 use Rattle.spec_step.specs.declared.tree.Instance.{Instance}
 use Rattle.step_grammar.specs.Symbols.{symbol_of}
 use Rattle.step_grammar.specs.Entries.{Stand, entry_step, with_last}
-use Rattle.step_grammar.specs.Places.{State, start, step, run_on, with_entry, with_head_entry, with_instance}
+use Rattle.step_grammar.specs.Places.{State, start, step, run_on, with_instance}
 use Rattle.step_grammar.specs.Runs.{runs, whole}
 use Rattle.step_grammar.specs.declared.symbol.Symbol.{Symbol}
 use Rattle.step_grammar.specs.declared.entry.Frame.{Frame}
@@ -116,7 +115,6 @@ end_closed key es head instances =
 -- Entries, wherever they stand.
 module _ (f : Stand → State) (carries : (p : Spot) (frames : List Frame) (s : Symbol) (next : Stand) → entry_step p frames s ≡ Some next → step (f (p, frames)) s ≡ Some (f next))
     (ends : (e : Entry) → Ends (f (spot.Read e, []))) where
-
   end_by : (p : Spot) (frames : List Frame) (next : Stand) (l : Lexeme) → IsToken l → entry_step p frames (symbol_of l) ≡ Some next → Ends (f next) → Ends (f (p, frames))
   end_by p frames next l is e h = end_step (f (p, frames)) (f next) l is (carries p frames (symbol_of l) next e) h
 
@@ -156,15 +154,15 @@ end_simple : (key : Key) (head : List Entry) (instances : List Instance) (p : Sp
 end_simple key head instances =
     end_entry (in_simple key head instances) (simple_carries key head instances)
     (λ e.
-      let q : State = in_simple key head instances (spot.Read e, []) in
-      end_step q (with_instance key (body.Simple e) 0 q) a_semicolon refl refl (end_instances head (with_instance key (body.Simple e) 0 q).instances))
+    let q : State = in_simple key head instances (spot.Read e, []) in
+    end_step q (with_instance key (body.Simple e) 0 q) a_semicolon refl refl (end_instances head (with_instance key (body.Simple e) 0 q).instances))
 
 end_complex : (key : Key) (es : List Entry) (head : List Entry) (instances : List Instance) (p : Spot) (frames : List Frame)
     → FitsSpot p frames → Ends (in_complex key es head instances (p, frames))
 end_complex key es head instances =
     end_entry (in_complex key es head instances) (complex_carries key es head instances)
     (λ e. end_step (in_complex key es head instances (spot.Read e, [])) (plain (place.Closed key (es ++ e ∷ [])) head instances) a_closing refl refl
-      (end_closed key (es ++ e ∷ []) head instances))
+    (end_closed key (es ++ e ∷ []) head instances))
 
 abbrev a_keyword : Lexeme
 a_keyword = token kind.Keyword (codes "A")

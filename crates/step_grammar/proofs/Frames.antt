@@ -1,5 +1,5 @@
 -- Which parentheses stand open at a place, and what is whole there.
-use Rattle.std.proofs.Common.{◌≡◌, ℕ, List, [], ◌∷◌, ◌++◌, Option, Some, None, All, map, refl, sym, ◌∙◌, ap, subst}
+use Rattle.std.proofs.Common.{◌≡◌, List, [], ◌∷◌, Option, Some, None, All, map, refl, sym, subst}
 use Rattle.std.proofs.lemmas.List.Elements.{All-nil, All-push}
 use Rattle.spec_step.specs.Lexemes.{Lexeme}
 use Rattle.spec_step.specs.Grammar.{HasEntry}
@@ -286,7 +286,7 @@ whole_at : (p : Place) (frames : List Frame) (head : List Entry) (instances : Li
     → p ≡ place.Fixed fixed.Nothing → record { place = p; frames = frames; head = head; instances = instances } ≡ whole head instances
 whole_at p frames head instances h e =
     let none : InInstances (record { place = p; frames = frames; head = head; instances = instances }) =
-        subst (λ (x : Place). FitsAt x (record { place = p; frames = frames; head = head; instances = instances })) e h in
+    subst (λ (x : Place). FitsAt x (record { place = p; frames = frames; head = head; instances = instances })) e h in
     let empty : frames ≡ [] = none.0 in
     cc
 

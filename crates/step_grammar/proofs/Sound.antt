@@ -1,5 +1,5 @@
 -- What the machine has read are the trees of the tokens.
-use Rattle.std.proofs.Common.{◌≡◌, List, [], ◌∷◌, ◌++◌, Option, Some, None, All, map, refl, sym, ◌∙◌, ap, subst, append_assoc, append-nil}
+use Rattle.std.proofs.Common.{◌≡◌, List, [], ◌∷◌, ◌++◌, Option, Some, None, All, map, sym, subst, append_assoc, append-nil}
 use Rattle.std.proofs.lemmas.List.Elements.{All-head, All-tail}
 use Rattle.std.specs.List.{AllZip}
 use Rattle.spec_step.specs.Lexemes.{Lexeme, IsToken}
@@ -35,8 +35,8 @@ said_from (Some p) front [] q h are e =
     subst (λ (x : State). AllZip IsAs (read x) (front ++ [])) same (subst (AllZip IsAs (read p)) (sym (append-nil front)) h.1)
 said_from (Some p) front (l ∷ ls) q h are e =
     let next : HasSaid (step p (symbol_of l)) (front ++ l ∷ []) =
-        say_more (step p (symbol_of l)) l (read p) front (fit_step p p.place (symbol_of l) h.0)
-        (add_step p p.place (symbol_of l) l h.0 (spoken l (All-head IsToken l ls are))) h.1 in
+    say_more (step p (symbol_of l)) l (read p) front (fit_step p p.place (symbol_of l) h.0)
+    (add_step p p.place (symbol_of l) l h.0 (spoken l (All-head IsToken l ls are))) h.1 in
     subst (AllZip IsAs (read q)) (append_assoc front (l ∷ []) ls) (said_from (step p (symbol_of l)) (front ++ l ∷ []) ls q next (All-tail IsToken l ls are) e)
 
 pub sound_is : (ls : List Lexeme) (head : List Entry) (instances : List Instance) → All IsToken ls → runs ls ≡ Some (whole head instances) → IsDerived ls head instances

@@ -4,7 +4,7 @@ use Rattle.std.proofs.lemmas.Bool.{true≢false, and_parts}
 use Rattle.std.specs.Str.{str_eq_ignore_ascii_case}
 use Rattle.spec_step.specs.Spelling.{is_spelled, is_mark}
 use Rattle.spec_step.specs.Lexemes.{Lexeme, IsToken}
-use Rattle.spec_step.specs.Grammar.{Want, start_word, end_word, word, mark, spanned, head_keyword, number, ending, IsAs, is_word, equals, opening, closing, comma, semicolon}
+use Rattle.spec_step.specs.Grammar.{Want, start_word, end_word, word, mark, spanned, head_keyword, number, ending, IsAs, equals, opening, closing, comma, semicolon}
 use Rattle.spec_step.specs.declared.token.Span.{Span}
 use Rattle.spec_step.specs.declared.token.TokenKind.{TokenKind}
 use Rattle.spec_step.specs.declared.token.TokenKind.TheVariants as kind
