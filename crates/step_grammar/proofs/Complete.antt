@@ -75,6 +75,7 @@ lead_semicolon q next h = lead_cons (λ l k. ap (step q) (as_mark 59 l k) ∙ h 
 
 -- The header.
 
+-- one entry more
 lead_head_entry : (e : Entry) (head : List Entry) → Leads (plain place.Head head []) (head_spelling e) (plain place.Head (head ++ e ∷ []) [])
 lead_head_entry e head =
     lead_cons (λ l h. ap (step (plain place.Head head [])) (as_head e.keyword l h) ∙ ap (λ p. at_place (plain place.Head head []) (Some p)) (head_begins e.keyword l h))
@@ -109,6 +110,7 @@ lead_parts key head instances (x ∷ es) done e =
 abbrev made : Key → Body → ℕ → Instance
 made key b end = record { number = key.number; body = b; from = key.from; end = end }
 
+-- what stands behind the `=` of an instance
 lead_body : (key : Key) (b : Body) (end : ℕ) (head : List Entry) (instances : List Instance) → HasEntry b
     → Leads (plain (place.Equated key) head instances) (body_spelling b ++ ending end ∷ []) (plain place.Instances head (instances ++ made key b end ∷ []))
 lead_body key (body.Simple e) end head instances h =
@@ -166,5 +168,6 @@ lead_file : (head : List Entry) (instances : List Instance) → All (λ (i : Ins
 lead_file head instances h =
     lead_both (lead_both (lead_both (lead_both lead_start (lead_heads head [])) (lead_data head)) (lead_instances instances head [] h)) (lead_end head instances)
 
+-- the tokens of a file lead behind its last semicolon, and give its trees
 pub complete_is : (ls : List Lexeme) (head : List Entry) (instances : List Instance) → IsDerived ls head instances → runs ls ≡ Some (whole head instances)
 complete_is ls head instances h = (lead_file head instances h.entries).leads ls h.tokens

@@ -29,6 +29,7 @@ use Rattle.step_grammar.proofs.Frames.{InEntry, FitsSpot, FitsFixed, FitsAt, fit
 use Rattle.step_grammar.proofs.Leads.{run_on-append, map_both}
 use Rattle.step_grammar.proofs.Sound.{sound_is}
 
+-- some tokens end a file from here
 record Ends (q : State) : Type 0 where
   more : List Lexeme
   head : List Entry
@@ -65,6 +66,7 @@ a_dollar = token kind.Mark (codes "$")
 
 -- Between the parts of a file.
 
+-- each place from the next
 end_nothing : (head : List Entry) (instances : List Instance) → Ends (plain (place.Fixed fixed.Nothing) head instances)
 end_nothing head instances = record { more = []; head = head; instances = instances; tokens = All-nil IsToken; run = refl }
 
@@ -121,6 +123,7 @@ module _ (f : Stand → State) (carries : (p : Spot) (frames : List Frame) (s : 
   end_read : (e : Entry) (frames : List Frame) → frames ≡ [] → Ends (f (spot.Read e, frames))
   end_read e frames h = subst (λ (x : List Frame). Ends (f (spot.Read e, x))) (sym h) (ends e)
 
+  -- behind a parameter all that is open is closed
   end_behind : (frames : List Frame) (p : Param) → InEntry frames → Ends (f (spot.Behind p, frames))
   end_behind [] p h = absurd h
   end_behind (frame.List ps ∷ frames) p h =

@@ -28,6 +28,7 @@ use Rattle.step_grammar.proofs.Said.{as_mark, as_spanned, as_reference}
 pub record Leads (q : State) (ws : List Want) (next : State) : Type 0 where
   pub leads : (ls : List Lexeme) → AllZip IsAs ws ls → run_on (Some q) (map symbol_of ls) ≡ Some next
 
+-- a run over two lists of symbols, one after the other
 pub run_on-append : (o : Option State) (xs ys : List Symbol) → run_on o (xs ++ ys) ≡ run_on (run_on o xs) ys
 run_on-append None xs ys = refl
 run_on-append (Some p) [] ys = refl
@@ -122,6 +123,7 @@ module _ (f : Stand → State) (carries : (p : Spot) (frames : List Frame) (s : 
   of_entry : (k : Span) → Brackets (frame.Entry k) (λ ps. spot.Read (record { keyword = k; params = ps }))
   of_entry k = record { empty = λ frames. refl; last = λ p ps frames. refl; more = λ p ps frames. refl }
 
+  -- the rest of a list, behind its parameter p
   lead_further : (open_at : List Param → Frame) (shut : List Param → Spot) → Brackets open_at shut → (es : List Known) (ps : List Param) (p : Param) (frames : List Frame)
       → Leads (f (spot.Behind p, open_at ps ∷ frames)) (further (map known_spelling es)) (f (shut (ps ++ p ∷ map known_param es), frames))
   lead_further open_at shut b [] ps p frames = lead_cons (by_mark 41 symbol.Close (spot.Behind p) (open_at ps ∷ frames) _ (as_mark 41) (b.last p ps frames)) lead_nil
@@ -131,6 +133,7 @@ module _ (f : Stand → State) (carries : (p : Spot) (frames : List Frame) (s : 
       (subst (λ x. Leads (f (spot.Behind e.0, open_at (ps ++ p ∷ []) ∷ frames)) (further (map known_spelling es)) (f (shut x, frames)))
       (append_assoc ps (p ∷ []) (e.0 ∷ map known_param es)) (lead_further open_at shut b es (ps ++ p ∷ []) e.0 frames)))
 
+  -- all that stands behind an opening parenthesis
   lead_members : (open_at : List Param → Frame) (shut : List Param → Spot) → Brackets open_at shut → (es : List Known) (frames : List Frame)
       → Leads (f (spot.Opened, open_at [] ∷ frames)) (members (map known_spelling es)) (f (shut (map known_param es), frames))
   lead_members open_at shut b [] frames = lead_cons (by_mark 41 symbol.Close spot.Opened (open_at [] ∷ frames) _ (as_mark 41) (b.empty frames)) lead_nil
@@ -153,6 +156,7 @@ module _ (f : Stand → State) (carries : (p : Spot) (frames : List Frame) (s : 
     first = λ frames. lead_cons (λ l h. ap (step (f (spot.Opened, frames))) (as_spanned kind.Keyword k l h) ∙ carries spot.Opened frames _ (spot.Typed k, frames) refl) (lead_typed k e frames);
   }
 
+  -- one layer of a parameter, whose children carry what is known of them
   over_layer : (y : Param-F Known) → Over (layer_spelling (map-Param Known (List Want) known_spelling y)) (rolled.roll-Param (map-Param Known Param known_param y))
   unfolding rolled.roll-Param denote.Hole.Carrier.roll
   over_layer layer.Unset = over_token (mark 36) param.Unset (λ l. symbol.Atom atom.Unset) (as_mark 36) (λ l frames. refl) (λ l frames. refl)

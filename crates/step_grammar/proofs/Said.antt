@@ -42,6 +42,7 @@ name_of_small text =
     else (if bytes_eq text (str_to_ascii_lowercase (codes "DATA")) then name.Data
     else name.Other))
 
+-- what passes the test is equal
 same_bytes : (a b : List ℕ) → bytes_eq a b ≡ true → a ≡ b
 same_bytes a b h = (bytes_eq-Decides a b).0 h
 
@@ -54,6 +55,7 @@ as_word w l h = as_kind kind.Keyword l h.0 ∙ ap (symbol.Keyword l.span) (same_
 pub as_head : (p : Span) (l : Lexeme) → IsAs (head_keyword p) l → symbol_of l ≡ symbol.Keyword p (name_of l.text)
 as_head p l h = as_spanned kind.Keyword p l (h.0, h.1)
 
+-- what the name of another word leads to
 head_chosen : (p : Span) (a b c : Bool) → a ≡ false → head_keyword_place p (if a then name.EndSection else (if b then name.Header else (if c then name.Data else name.Other))) ≡ place.HeadEntry (spot.Named p)
 head_chosen p true b c h = absurd (cc)
 head_chosen p false true c h = refl

@@ -36,6 +36,7 @@ use Rattle.step_grammar.proofs.Spoken.{Spoken, atom_want, semicolon_ends, is_end
 
 -- Parameters.
 
+-- the spelling of each kind of parameter
 pub spelling_list : (ps : List Param) → spelling (param.List ps) ≡ opening ∷ members (map spelling ps)
 unfolding rolled.roll-Param denote.Hole.Carrier.roll
 spelling_list ps = fold-roll-Param (List Want) layer_spelling (layer.List ps)
@@ -63,6 +64,7 @@ abbrev listed : List Param → List Want
 listed [] = []
 listed (p ∷ ps) = spelling p ++ (comma ∷ listed ps)
 
+-- one parameter more, and what stands behind it
 listed_last : (ps : List Param) (p : Param) → listed (ps ++ p ∷ []) ≡ listed ps ++ (spelling p ++ comma ∷ [])
 listed_last [] p = refl
 listed_last (x ∷ ps) p = ap (λ l. spelling x ++ (comma ∷ l)) (listed_last ps p) ∙ sym (append_assoc (spelling x) (comma ∷ listed ps) (spelling p ++ comma ∷ []))
@@ -86,6 +88,7 @@ before first (frame.Entry k ps ∷ frames) = before first frames ++ (first k ∷
 before first (frame.List ps ∷ frames) = before first frames ++ (opening ∷ listed ps)
 before first (frame.Typed k ∷ frames) = before first frames ++ (spanned kind.Keyword k ∷ opening ∷ [])
 
+-- what was read of an entry
 abbrev read_entry : (Span → Want) → Spot → List Frame → List Want
 read_entry first (spot.Named k) frames = before first frames ++ first k ∷ []
 read_entry first spot.Opened frames = before first frames
@@ -94,10 +97,12 @@ read_entry first (spot.Typed k) frames = before first frames ++ spanned kind.Key
 read_entry first (spot.Behind p) frames = before first frames ++ spelling p
 read_entry first (spot.Read e) frames = before first frames ++ (first e.keyword ∷ arguments e.params)
 
+-- where the step exists, its token is as some want says that is added to what was read
 abbrev AddsStand : (Span → Want) → Lexeme → List Want → Option Stand → Type 0
 AddsStand first l ws None = Unit {0}
 AddsStand first l ws (Some stand) = (w : Want) × IsAs w l × (read_entry first stand.0 stand.1 ≡ ws ++ w ∷ [])
 
+-- so it is at each place in an entry
 add_named : (first : Span → Want) (k : Span) (frames : List Frame) (s : Symbol) (l : Lexeme) → Spoken s l → AddsStand first l (read_entry first (spot.Named k) frames) (step_named k frames s)
 add_named first k frames symbol.Open l h = (opening, h, sym (append_assoc (before first frames) (first k ∷ []) (opening ∷ [])))
 add_named first k frames s l h = tt
@@ -188,6 +193,7 @@ dated head instances = headed head ++ (data_start ++ flat_map instance_spelling 
 pub file_is : (head : List Entry) (instances : List Instance) → dated head instances ++ file_end ≡ file_spelling head instances
 file_is head instances = ap (λ x. x ++ file_end) (sym (append_assoc (headed head) data_start (flat_map instance_spelling instances)))
 
+-- what was read so far, place by place
 abbrev read_fixed : Fixed → State → List Want
 read_fixed fixed.StartWord q = []
 read_fixed fixed.StartEnd q = start_word ∷ []
@@ -221,10 +227,12 @@ read_at (place.Closed key es) q = dated q.head q.instances ++ keyed key (body_sp
 abbrev pub read : State → List Want
 read q = read_at q.place q
 
+-- where the step exists, its token is as some want says that is added to what was read
 abbrev pub AddsState : Lexeme → List Want → Option State → Type 0
 AddsState l ws None = Unit {0}
 AddsState l ws (Some q) = (w : Want) × IsAs w l × (read q ≡ ws ++ w ∷ [])
 
+-- so it is at each place in a file
 add_fixed : (q : State) (f : Fixed) (s : Symbol) (l : Lexeme) → FitsFixed f q → Spoken s l → AddsState l (read_fixed f q) (at_place q (step_fixed f s))
 add_fixed q fixed.StartWord symbol.StartWord l h k = (start_word, k, refl)
 add_fixed q fixed.StartWord s l h k = tt
@@ -348,6 +356,7 @@ add_behind_part q key es e s l h k = tt
 lift : (x v ws : List Want) (w : Want) → v ≡ ws ++ w ∷ [] → x ++ v ≡ (x ++ ws) ++ w ∷ []
 lift x v ws w e = ap (λ y. x ++ y) e ∙ sym (append_assoc x ws (w ∷ []))
 
+-- what an entry's step adds is added in the file
 add_in_head : (q : State) (l : Lexeme) (ws : List Want) (o : Option Stand) → AddsStand head_keyword l ws o → AddsState l (headed q.head ++ ws) (in_entry q place.HeadEntry o)
 add_in_head q l ws None h = tt
 add_in_head q l ws (Some stand) h = (h.0, h.1, lift (headed q.head) _ ws h.0 h.2)

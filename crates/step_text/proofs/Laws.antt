@@ -1,5 +1,5 @@
 -- The laws of the machine of places, over tokens with their bytes.
-use Rattle.std.proofs.Common.{◌≡◌, ℕ, ◌+◌, ◌≤◌, List, [], ◌∷◌, ◌++◌, Option, Some, None, All, map, sym, ◌∙◌, ap}
+use Rattle.std.proofs.Common.{◌≡◌, List, [], ◌++◌, Some, None, All, map, sym, ◌∙◌, ap}
 use Rattle.spec_step.specs.Lexemes.{Lexeme, IsToken}
 use Rattle.spec_step.specs.Grammar.{IsDerived}
 use Rattle.spec_step.specs.Files.{BeginsFile, open_behind}
