@@ -1,5 +1,5 @@
 -- Lists of planes without repeats, and the walls of the enclosing cube.
-use Rattle.std.specs.Prelude.{◌≡◌, ◌≢◌, map, take, List, [], ◌∷◌, ℤ, pos, negsuc}
+use Rattle.std.specs.Prelude.{◌≡◌, ◌≢◌, ◌≤◌, ◌^◌, map, take, length, List, [], ◌∷◌, ℤ, pos, negsuc}
 use Rattle.std.specs.List.{AllPairs}
 use Rattle.spec_space.specs.declared.Plane.{Plane as AnyPlane}
 use Rattle.plane_core.specs.declared.numbers.Plane.{Plane}
@@ -33,3 +33,4 @@ BeginsWithWalls ps = map plane_of (take 6 ps) ≡ cube_walls
 pub record IsBook (ps : List Plane) : Type 0 where
   pub distinct : AreDistinct ps
   pub walls : BeginsWithWalls ps
+  pub few : length ps ≤ 2 ^ 31

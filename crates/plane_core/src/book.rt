@@ -58,6 +58,7 @@ impl PlaneBook {
         ensures value { result ≡ length self.now }
         ensures distinct { AreDistinct self.now }
         ensures walls { BeginsWithWalls self.now }
+        ensures few { length self.now ≤ 2 ^ 31 }
     {
         self.planes.len()
     }
