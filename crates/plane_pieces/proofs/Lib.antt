@@ -1,0 +1,4 @@
+pub mod Held
+pub mod Counts
+pub mod Sided
+pub mod Parts
