@@ -1,5 +1,5 @@
 -- How many pieces have a point strictly inside.
-use Rattle.std.proofs.Common.{◌≡◌, ℕ, ◌+◌, Bool, true, false, cond, List, [], ◌∷◌, ◌++◌, length, length-append, All, refl, sym, ap, ◌∙◌, subst, arith}
+use Rattle.std.proofs.Common.{◌≡◌, ℕ, ◌+◌, Bool, true, false, cond, List, [], ◌∷◌, ◌++◌, length, length-append, ◌<◌, get_or, drop, drop-cons, add-one, All, refl, sym, ap, ◌∙◌, subst, arith}
 use Rattle.std.specs.Prelude.{filter}
 use Rattle.std.proofs.lemmas.List.Elements.{filter-append, All-push}
 use Rattle.spec_space.specs.declared.Point.{Point}
@@ -52,3 +52,17 @@ around_pushed_twice planes p old next new q r e e2 f g is_f is_g b two =
   where
     sums : (old next new x y z : ℕ) → next ≡ old + x → new ≡ next + y → x + y ≡ z → new ≡ old + z
     sums old next new x y z h k l = omega arith
+
+-- ---- the pieces that are left
+left_first : {X : Type 0} → (xs : List X) (x : X) (i : ℕ) → i < length xs → x ≡ get_or xs i x → drop i xs ≡ x ∷ drop (i + 1) xs
+left_first xs x i h e = drop-cons xs i x h ∙ rw (← e, add-one) refl
+
+-- one round over the pieces: what was left at its start is one piece and what is left at its end
+pub around_round : (planes : List BookPlane) (p : Point) (pieces : List Piece) (q : Piece) (i old new : ℕ) → i < length pieces → q ≡ get_or pieces i q
+    → old + around planes p (drop i pieces) ≡ around planes p pieces → new ≡ old + one (holds planes q.frag p) → new + around planes p (drop (i + 1) pieces) ≡ around planes p pieces
+around_round planes p pieces q i old new h e before step =
+    sums old new (one (holds planes q.frag p)) (around planes p (drop i pieces)) (around planes p (drop (i + 1) pieces)) (around planes p pieces)
+    (ap (around planes p) (left_first pieces q i h e) ∙ around_cons planes p q (drop (i + 1) pieces)) before step
+  where
+    sums : (old new x left rest all : ℕ) → left ≡ x + rest → old + left ≡ all → new ≡ old + x → new + rest ≡ all
+    sums old new x left rest all e f g = omega arith
