@@ -8,4 +8,5 @@ pub mod Squares
 pub mod Starts
 pub mod Turned
 pub mod Turning
+pub mod WholeCube
 pub mod Wholes

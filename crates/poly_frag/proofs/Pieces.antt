@@ -1,5 +1,5 @@
 -- The piece that a cut leaves of a fragment is a fragment, with the points on the side that is kept.
-use Rattle.std.proofs.Common.{◌≡◌, ◌⊎◌, inl, inr, ◌+◌, ◌<◌, Bool, true, false, List, [], ◌∷◌, ◌++◌, map, length, length-append, slice_get, ℕ, ℤ, pos, negsuc, neg_ℤ, ◌+ℤ◌, ◌-ℤ◌, ◌*ℤ◌, ◌<ℤ◌, ◌≤ℤ◌, All, Contains, refl, sym, ap, ◌∙◌, subst, arith}
+use Rattle.std.proofs.Common.{◌≡◌, ◌⊎◌, inl, inr, ◌+◌, ◌<◌, Bool, true, false, List, [], ◌∷◌, ◌++◌, map, length, length-append, pos, negsuc, ◌<ℤ◌, ◌≤ℤ◌, All, Contains, refl, sym, ap, ◌∙◌, subst, arith}
 use Rattle.std.specs.Prelude.{◌↔◌}
 use Rattle.std.proofs.lemmas.Int.{ints}
 use Rattle.std.proofs.lemmas.List.{length-map}
@@ -9,19 +9,18 @@ use Rattle.spec_space.specs.declared.Plane.{Plane}
 use Rattle.spec_space.specs.Points.{IsPoint, value, opposite}
 use Rattle.plane_core.specs.declared.numbers.Plane.{Plane as BookPlane}
 use Rattle.plane_core.specs.declared.numbers.Corner.{Corner}
-use Rattle.plane_core.specs.declared.book.PlaneId.{PlaneId}
 use Rattle.plane_core.specs.Books.{x_plane, y_plane, z_plane}
-use Rattle.convex_cycles.specs.Sides.{is_in_front, IsWithin, IsTouching}
+use Rattle.convex_cycles.specs.Sides.{IsWithin, IsTouching}
 use Rattle.convex_cycles.specs.Cycles.{Step, IsEdgeOf, IsRound, AreConvex}
 use Rattle.convex_cycles.proofs.Lists.{Each, Member, each_member, each_from_all, all_from_each, each_from_members, each_weaker, each_append}
 use Rattle.convex_cycles.proofs.Crossings.{Touches}
 use Rattle.convex_cycles.proofs.Links.{IsLinked, sides, edge}
 use Rattle.convex_cycles.proofs.Hull.{closed_hull}
 use Rattle.convex_cycles.proofs.CutSides.{kept_sides, round_flags, start_flag}
-use Rattle.convex_cycles.proofs.CutCycles.{CycleFacts, to_cycle, linked}
+use Rattle.convex_cycles.proofs.CutCycles.{to_cycle, linked}
 use Rattle.convex_cycles.proofs.Rounds.{Begins}
 use Rattle.convex_cycles.proofs.Remains.{cut_steps}
-use Rattle.convex_cycles.proofs.Cuts.{IsCut, IsFrontOf, HasInner, KeptBy, BehindOf, cut as cut_in_two, has_inner}
+use Rattle.convex_cycles.proofs.Cuts.{IsFrontOf, HasInner, KeptBy, BehindOf, cut as cut_in_two, has_inner}
 use Rattle.poly_frag.specs.Clips.{closed_round, edges_of_one, kept_edges}
 use Rattle.poly_frag.specs.Cubes.{IsInCube}
 use Rattle.poly_frag.specs.Frags.{plane_at, side_of, sides_of, support_of, IsInside, IsIn, IsPartOf, HasPart, AreEdgesOf}
@@ -193,10 +192,10 @@ piece planes f g cycle cut cs at there high low support same =
     let c = cut_in_two s k cycle.steps cycle.convex high low in
     let edges = kept_edges_of f g cut (closed_round (flags_of k cs)) same in
     let new : sides_of planes g ≡ sides (cut_steps k c.enters cycle.steps) =
-        ap (map (side_of planes)) same ∙ kept_alike planes cut f.edges.items (closed_round (flags_of k cs))
-        ∙ ap (λ hs. kept_sides k hs (closed_round (flags_of k cs))) cycle.sides
-        ∙ ap (kept_sides k (sides cycle.steps)) (flags_alike planes f cycle cs k at)
-        ∙ sym c.sides_are in
+    ap (map (side_of planes)) same ∙ kept_alike planes cut f.edges.items (closed_round (flags_of k cs))
+    ∙ ap (λ hs. kept_sides k hs (closed_round (flags_of k cs))) cycle.sides
+    ∙ ap (kept_sides k (sides cycle.steps)) (flags_alike planes f cycle cs k at)
+    ∙ sym c.sides_are in
     record {
       support = support;
       cycle = record {
@@ -220,9 +219,9 @@ part_in_cube planes g f h fragment cycle support part =
     let links = linked s fragment.cycle.steps (to_cycle s fragment.cycle.steps fragment.cycle.convex) in
     let new = linked t cycle.steps (to_cycle t cycle.steps cycle.convex) in
     let inside : (e : Step) → Member e cycle.steps → IsInCube e.start = λ e m.
-        let is = edge t cycle.steps new e m in
-        let here : IsIn planes g e.start = (is.start_on, subst (λ hs. IsTouching hs e.start) (sym cycle.sides) (all_from_each (λ k. pos 0 ≤ℤ value k e.start) (sides cycle.steps) (start_touches t cycle.steps new e m))) in
-        let there = ((part.touching e.start is.start_point).0 here).0 in
-        hull_in_cube s fragment.cycle.steps links fragment.in_cube e.start is.start_point there.0
-        (each_from_all (λ k. pos 0 ≤ℤ value k e.start) (sides fragment.cycle.steps) (subst (λ hs. IsTouching hs e.start) fragment.cycle.sides there.1)) in
+    let is = edge t cycle.steps new e m in
+    let here : IsIn planes g e.start = (is.start_on, subst (λ hs. IsTouching hs e.start) (sym cycle.sides) (all_from_each (λ k. pos 0 ≤ℤ value k e.start) (sides cycle.steps) (start_touches t cycle.steps new e m))) in
+    let there = ((part.touching e.start is.start_point).0 here).0 in
+    hull_in_cube s fragment.cycle.steps links fragment.in_cube e.start is.start_point there.0
+    (each_from_all (λ k. pos 0 ≤ℤ value k e.start) (sides fragment.cycle.steps) (subst (λ hs. IsTouching hs e.start) fragment.cycle.sides there.1)) in
     record { cycle = cycle; in_cube = all_from_each (λ e. IsInCube e.start) cycle.steps (each_from_members (λ e. IsInCube e.start) cycle.steps inside) }

@@ -1,11 +1,11 @@
 -- The corner where two neighbouring edges meet is the point where the step of the cycle begins.
-use Rattle.std.proofs.Common.{◌≡◌, ◌≢◌, Bool, true, false, List, [], ◌∷◌, map, ℤ, pos, neg_ℤ, ◌+ℤ◌, ◌-ℤ◌, ◌*ℤ◌, ◌<ℤ◌, ◌≤ℤ◌, refl, sym, ap, ◌∙◌, subst, arith}
+use Rattle.std.proofs.Common.{◌≡◌, Bool, true, false, List, [], ◌∷◌, map, ℤ, pos, neg_ℤ, ◌+ℤ◌, ◌-ℤ◌, ◌*ℤ◌, ◌<ℤ◌, ◌≤ℤ◌, refl, sym, ◌∙◌, subst, arith}
 use Rattle.std.proofs.lemmas.Int.{ints}
 use Rattle.integer_laws.proofs.Ring.{var, ◌⊕◌, ◌⊗◌, ◌⊖◌, ring, *ℤ_comm}
 use Rattle.integer_laws.proofs.Signs.{mul_positive}
 use Rattle.spec_space.specs.declared.Point.{Point}
 use Rattle.spec_space.specs.declared.Plane.{Plane}
-use Rattle.spec_space.specs.Points.{IsPoint, value, normal, dot, cross, opposite}
+use Rattle.spec_space.specs.Points.{IsPoint, value, opposite}
 use Rattle.plane_core.specs.declared.numbers.Plane.{Plane as BookPlane}
 use Rattle.plane_core.specs.declared.numbers.Corner.{Corner}
 use Rattle.plane_core.specs.Points.{IsSamePoint}
@@ -13,10 +13,10 @@ use Rattle.plane_core.specs.Views.{point_of}
 use Rattle.plane_core.proofs.Cancel.{positive_right, nonpos_right, mul_nonpos}
 use Rattle.plane_core.proofs.Laws.{common_point_unique}
 use Rattle.convex_cycles.specs.Sides.{is_in_front}
-use Rattle.convex_cycles.specs.Cycles.{Step, IsEdgeOf, Follows, AreChained, AreConvex, turn}
+use Rattle.convex_cycles.specs.Cycles.{Step, IsEdgeOf, AreChained, AreConvex}
 use Rattle.convex_cycles.proofs.Lists.{Each, each_from_all}
 use Rattle.convex_cycles.proofs.Flags.{Tells, front_tells, front_flag}
-use Rattle.poly_frag.specs.Frags.{plane_at, kept_side, side_of, sides_of, support_of}
+use Rattle.poly_frag.specs.Frags.{plane_at, kept_side, side_of, support_of}
 use Rattle.poly_frag.specs.Cycles.{IsCycle, IsMeetOf, AreMeets, AreMeetsRound, AreCorners, last_edge}
 use Rattle.poly_frag.specs.declared.frag.Edge.{Edge}
 use Rattle.poly_frag.specs.declared.frag.Frag.{Frag}
@@ -89,9 +89,10 @@ chain_starts planes s before [] e (f ∷ fs) last cs side same chain is m = cc
 chain_starts planes s before (edge ∷ es) e [] last cs side same chain is m = cc
 chain_starts planes s before (edge ∷ es) e (f ∷ fs) last [] side same chain is m = absurd m
 chain_starts planes s before (edge ∷ es) e (f ∷ fs) last (c ∷ cs) side same chain is m =
-    let parts = head_same (side_of planes edge) f.side (map (side_of planes) es) (sides fs) same in
-    (same_start planes s before edge f c is.0 (sym chain.0.2 ∙ side) (sym parts.0) m.0,
-      chain_starts planes s edge es f fs last cs (sym parts.0) parts.1 chain.1 is.1 m.1)
+    let parts = head_same (side_of planes edge) f.side (map (side_of planes) es) (sides fs) same in (
+      same_start planes s before edge f c is.0 (sym chain.0.2 ∙ side) (sym parts.0) m.0,
+      chain_starts planes s edge es f fs last cs (sym parts.0) parts.1 chain.1 is.1 m.1,
+    )
 
 round_starts : (planes : List BookPlane) (s : Plane) (edges : List Edge) (steps : List Step) (cs : List Corner)
     → map (side_of planes) edges ≡ sides steps → AreConvex s steps → AreMeetsRound planes s edges cs → AreStarts cs steps
@@ -101,9 +102,10 @@ round_starts planes s (edge ∷ edges) (e ∷ es) [] same convex m = absurd m
 round_starts planes s (edge ∷ edges) (e ∷ es) (c ∷ cs) same convex m =
     let parts = head_same (side_of planes edge) e.side (map (side_of planes) edges) (sides es) same in
     let is = each_from_all (IsEdgeOf s) (e ∷ es) convex.edges in
-    let prev : e.prev ≡ side_of planes (last_edge edge edges) = sym (chain_last e es e convex.round) ∙ sym (last_same (side_of planes edge) e.side (map (side_of planes) edges) (sides es) parts.0 parts.1) ∙ last_mapped planes edge edges in
-    (same_start planes s (last_edge edge edges) edge e c is.0 prev (sym parts.0) m.0,
-      chain_starts planes s edge edges e es e cs (sym parts.0) parts.1 convex.round is.1 m.1)
+    let prev : e.prev ≡ side_of planes (last_edge edge edges) = sym (chain_last e es e convex.round) ∙ sym (last_same (side_of planes edge) e.side (map (side_of planes) edges) (sides es) parts.0 parts.1) ∙ last_mapped planes edge edges in (
+      same_start planes s (last_edge edge edges) edge e c is.0 prev (sym parts.0) m.0,
+      chain_starts planes s edge edges e es e cs (sym parts.0) parts.1 convex.round is.1 m.1,
+    )
   where
     last_same : (h k : Plane) (hs ks : List Plane) → h ≡ k → hs ≡ ks → last_of h hs ≡ last_of k ks
     last_same h k hs ks e f = rw (e, f) refl

@@ -1,18 +1,18 @@
 -- The corners of a cycle: neighbouring edges meet the support in one point.
-use Rattle.std.proofs.Common.{◌≡◌, ◌≢◌, ◌+◌, ◌<◌, ◌≤◌, ◌-◌, ℕ, zero, suc, Bool, true, false, List, [], ◌∷◌, ◌++◌, map, length, drop, get_or, slice_get, Option, Some, None, ℤ, pos, neg_ℤ, ◌+ℤ◌, ◌-ℤ◌, ◌*ℤ◌, ◌<ℤ◌, All, refl, sym, ap, ◌∙◌, subst, arith}
+use Rattle.std.proofs.Common.{◌≡◌, ◌≢◌, ◌+◌, ◌<◌, ◌≤◌, ◌-◌, ℕ, suc, Bool, true, false, List, [], ◌∷◌, ◌++◌, map, length, drop, get_or, slice_get, Some, ℤ, pos, neg_ℤ, ◌<ℤ◌, All, refl, sym, ap, ◌∙◌, subst, arith}
 use Rattle.std.proofs.lemmas.Int.{ints}
 use Rattle.std.proofs.Math.Seq.{drop-cons}
 use Rattle.std.proofs.lemmas.List.{append_assoc, append-nil, drop_all}
 use Rattle.std.proofs.lemmas.List.Elements.{All-head, All-tail}
 use Rattle.integer_laws.proofs.Ring.{var, neg, ◌⊕◌, ◌⊗◌, ◌⊖◌, ring}
 use Rattle.spec_space.specs.declared.Plane.{Plane}
-use Rattle.spec_space.specs.Points.{normal, dot, cross, opposite, value}
+use Rattle.spec_space.specs.Points.{opposite, value}
 use Rattle.plane_core.specs.Views.{point_of}
 use Rattle.plane_core.specs.Planes.{normals_det, IsCommonPoint}
 use Rattle.plane_core.specs.declared.book.PlaneId.{PlaneId}
 use Rattle.plane_core.specs.declared.numbers.Plane.{Plane as BookPlane}
 use Rattle.plane_core.specs.declared.numbers.Corner.{Corner}
-use Rattle.convex_cycles.specs.Cycles.{Step, IsEdgeOf, Follows, AreChained, IsRound, AreConvex, turn}
+use Rattle.convex_cycles.specs.Cycles.{Step, IsEdgeOf, AreChained, AreConvex, turn}
 use Rattle.poly_frag.specs.Frags.{numbered, plane_at, kept_side, side_of, sides_of, support_of}
 use Rattle.poly_frag.specs.Cycles.{IsCycle, IsMeetOf, AreMeets, AreMeetsRound, last_edge}
 use Rattle.poly_frag.specs.declared.frag.Edge.{Edge}
@@ -32,9 +32,10 @@ last_of h (k ∷ ks) = last_of k ks
 
 chain_turns : (s : Plane) (e : Step) (fs : List Step) (last : Step) → AreChained e fs last → All (IsEdgeOf s) fs → TurnsFrom s e.side (sides fs)
 chain_turns s e [] last c a = tt
-chain_turns s e (f ∷ fs) last c a =
-    (subst (λ h. pos 0 <ℤ turn s h f.side) (sym c.0.2) (All-head (IsEdgeOf s) f fs a).left,
-      chain_turns s f fs last c.1 (All-tail (IsEdgeOf s) f fs a))
+chain_turns s e (f ∷ fs) last c a = (
+  subst (λ h. pos 0 <ℤ turn s h f.side) (sym c.0.2) (All-head (IsEdgeOf s) f fs a).left,
+  chain_turns s f fs last c.1 (All-tail (IsEdgeOf s) f fs a),
+)
 
 -- the step before the first of a round has the last side
 pub chain_last : (e : Step) (fs : List Step) (last : Step) → AreChained e fs last → last_of e.side (sides fs) ≡ last.prev
@@ -42,9 +43,10 @@ chain_last e [] last c = c.2
 chain_last e (f ∷ fs) last c = chain_last f fs last c.1
 
 round_turns : (s : Plane) (e : Step) (es : List Step) → AreChained e es e → All (IsEdgeOf s) (e ∷ es) → TurnsFrom s (last_of e.side (sides es)) (e.side ∷ sides es)
-round_turns s e es c a =
-    (subst (λ h. pos 0 <ℤ turn s h e.side) (sym (chain_last e es e c)) (All-head (IsEdgeOf s) e es a).left,
-      chain_turns s e es e c (All-tail (IsEdgeOf s) e es a))
+round_turns s e es c a = (
+  subst (λ h. pos 0 <ℤ turn s h e.side) (sym (chain_last e es e c)) (All-head (IsEdgeOf s) e es a).left,
+  chain_turns s e es e c (All-tail (IsEdgeOf s) e es a),
+)
 
 -- the edges of a cycle turn left, each from the one before it, and the first from the last
 abbrev pub TurnsRound : Plane → List Plane → Type 0

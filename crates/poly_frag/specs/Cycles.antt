@@ -1,14 +1,14 @@
 -- Fragments as convex cycles, and their corners.
-use Rattle.std.specs.Prelude.{◌≡◌, ◌≢◌, ◌<◌, List, [], ◌∷◌, map, length, ℤ, pos, ◌<ℤ◌, ◌≤ℤ◌, All}
+use Rattle.std.specs.Prelude.{◌≡◌, ◌≢◌, ◌<◌, List, [], ◌∷◌, map, length, pos, All}
 use Rattle.spec_space.specs.declared.Point.{Point}
 use Rattle.spec_space.specs.declared.Plane.{Plane}
-use Rattle.spec_space.specs.Points.{IsPoint, value, normal, dot, cross}
+use Rattle.spec_space.specs.Points.{value, normal, dot, cross}
 use Rattle.plane_core.specs.declared.numbers.Plane.{Plane as BookPlane}
 use Rattle.plane_core.specs.declared.numbers.Corner.{Corner}
 use Rattle.plane_core.specs.Views.{point_of}
 use Rattle.convex_cycles.specs.Cycles.{Step, AreConvex}
 use Rattle.poly_frag.specs.Cubes.{IsInCube}
-use Rattle.poly_frag.specs.Frags.{plane_at, side_of, sides_of, support_of}
+use Rattle.poly_frag.specs.Frags.{plane_at, sides_of, support_of}
 use Rattle.poly_frag.specs.declared.frag.Edge.{Edge}
 use Rattle.poly_frag.specs.declared.frag.Frag.{Frag}
 

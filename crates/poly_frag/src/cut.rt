@@ -5,8 +5,8 @@ ghost use Rattle.poly_frag.specs.Splits.{IsSplit, AreSplitFragments, AreSplitEdg
 ghost use Rattle.poly_frag.specs.Clips.{kept_edges};
 
 use crate::clip::clipped;
-use crate::meets::{corners, kept_corners};
 use crate::frag::{Edge, Frag, Split};
+use crate::meets::{corners, kept_corners};
 use plane_core::{PlaneBook, PlaneId};
 use std::alloc::{AllocError, Global};
 
@@ -51,7 +51,7 @@ pub(crate) fn keeps_any(kept: &[bool]) -> bool
 }
 
 /// The part of the fragment that the cut keeps, by the corners that it keeps.
-pub(crate) fn part(alloc: Global, f: &Frag, cut: Edge, kept: &[bool]) -> Result<Frag, AllocError> 
+pub(crate) fn part(alloc: Global, f: &Frag, cut: Edge, kept: &[bool]) -> Result<Frag, AllocError>
     requires length { length kept.now ≡ length f.now.edges.items + 1 }
     ensures support { IfOk result (λ g. g.support ≡ f.now.support) }
     ensures edges { IfOk result (λ g. g.edges.items ≡ kept_edges cut f.now.edges.items kept.now) }

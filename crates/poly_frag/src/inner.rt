@@ -10,7 +10,12 @@ use plane_core::PlaneBook;
 use std::alloc::{AllocError, Global};
 
 /// What a wall keeps of a cycle, its plane included: `None` where some of the cycle lies behind the wall and none in front.
-pub(crate) fn inner_part(alloc: Global, book: &PlaneBook, f: &Frag, wall: Edge) -> Result<Option<Frag>, AllocError>
+pub(crate) fn inner_part(
+    alloc: Global,
+    book: &PlaneBook,
+    f: &Frag,
+    wall: Edge,
+) -> Result<Option<Frag>, AllocError>
     requires cycle { IsCycle book.now f.now }
     requires given { wall.plane.k < length book.now }
     ensures part { IfOk result (λ o. IfSome o (λ g. IsInnerPart book.now g f.now wall)) }

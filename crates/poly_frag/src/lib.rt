@@ -8,7 +8,11 @@ mod cut;
 mod frag;
 mod inner;
 mod meets;
+#[cfg(test)]
+mod tests;
+mod whole;
 
 pub use cut::split;
 pub use frag::{Edge, Frag, Split};
 pub use meets::corners;
+pub use whole::on_cube;

@@ -1,4 +1,4 @@
-use Rattle.std.proofs.Common.{◌≡◌, ◌∙◌, sym, ap, length, true, false}
+use Rattle.std.proofs.Common.{◌∙◌, sym, ap, length, true, false}
 use Rattle.std.specs.List.{list_any}
 use Rattle.spec_space.specs.Points.{opposite}
 use Rattle.plane_core.specs.Views.{plane_of}

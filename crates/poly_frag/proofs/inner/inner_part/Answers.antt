@@ -1,4 +1,4 @@
-use Rattle.std.proofs.Common.{◌≡◌, refl, sym, ap, ◌∙◌, length, not}
+use Rattle.std.proofs.Common.{sym, ap, ◌∙◌, length, not}
 use Rattle.std.specs.List.{list_any}
 use Rattle.plane_core.specs.Views.{plane_of}
 use Rattle.poly_frag.specs.Clips.{closed_round, kept_edges}

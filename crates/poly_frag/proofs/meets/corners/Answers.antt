@@ -1,5 +1,5 @@
-use Rattle.std.proofs.Common.{◌≡◌, ◌∙◌, ◌++◌, ◌∷◌, [], ap, sym, subst, refl, length, arith, get_or, drop, ◌+◌, false}
-use Rattle.poly_frag.specs.Frags.{support_of, side_of}
+use Rattle.std.proofs.Common.{◌≡◌, ◌∙◌, ◌++◌, sym, subst, refl, arith, get_or, drop, ◌+◌, false}
+use Rattle.poly_frag.specs.Frags.{support_of}
 use Rattle.poly_frag.specs.Cycles.{AreMeetsRound}
 use Rattle.poly_frag.specs.declared.frag.Edge.{Edge}
 use Rattle.poly_frag.proofs.Turning as turning
