@@ -38,8 +38,8 @@ IsOff planes support id p = id.k ≢ support.k → value (plane_at planes id) p 
 abbrev pub IsOffBelow : List BookPlane → PlaneId → ℕ → Point → Type 0
 IsOffBelow planes support n p = (id : PlaneId) → 6 ≤ id.k → id.k < n → IsOff planes support id p
 
--- a point of the support that is on none of the other planes lies strictly inside exactly one of the pieces, if it lies
--- strictly inside the enclosing cube, and else inside none
-abbrev pub CoverPlane : List BookPlane → PlaneId → List Piece → Type 0
-CoverPlane planes support pieces = (p : Point) → IsPoint p → value (plane_at planes support) p ≡ pos 0 → IsOffBelow planes support (length planes) p
+-- a point of the support that is on no other plane of the numbers from 6 to below n lies strictly inside exactly one of the
+-- pieces, if it lies strictly inside the enclosing cube, and else inside none
+abbrev pub CoverPlane : List BookPlane → PlaneId → ℕ → List Piece → Type 0
+CoverPlane planes support n pieces = (p : Point) → IsPoint p → value (plane_at planes support) p ≡ pos 0 → IsOffBelow planes support n p
     → (IsInsideCube p → length (pieces_at planes p pieces) ≡ 1) × ((IsInsideCube p → ⊥) → length (pieces_at planes p pieces) ≡ 0)

@@ -3,5 +3,7 @@
 
 mod cuts;
 mod sides;
+mod whole;
 
 pub use sides::Piece;
+pub use whole::pieces_on;
