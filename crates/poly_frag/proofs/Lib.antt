@@ -1,6 +1,10 @@
 pub mod Across
 pub mod Ahead
+pub mod CornerSigns
+pub mod InsideCube
 pub mod Kept
+pub mod KeptBooks
+pub mod Laws
 pub mod OtherPlanes
 pub mod Pieces
 pub mod Splitting

@@ -53,7 +53,7 @@ same_flag h p q hp hq s = front_flag h p (is_in_front h q) (tells_over (is_in_fr
 zero_back : (x y : ℤ) → y ≡ neg_ℤ x → y ≡ pos 0 → x ≡ pos 0
 zero_back x y e h = omega (arith, ints)
 
-on_plane : (keep : Bool) (h : Plane) (p : Point) → value (kept_side keep h) p ≡ pos 0 → value h p ≡ pos 0
+pub on_plane : (keep : Bool) (h : Plane) (p : Point) → value (kept_side keep h) p ≡ pos 0 → value h p ≡ pos 0
 on_plane true h p e = e
 on_plane false h p e = zero_back (value h p) (value (opposite h) p) (value_opposite h p) e
 

@@ -55,7 +55,12 @@ fn piece(
         return Ok(None);
     }
     match split(alloc, book, &f, by)? {
-        Split::Both(front, back) => Ok(Some(if in_front { front } else { back })),
+        Split::Both(front, back) => {
+            if in_front {
+                return Ok(Some(front));
+            }
+            Ok(Some(back))
+        }
         _ => Ok(None),
     }
 }
@@ -211,14 +216,15 @@ fn leaves_a_fragment_whole(rt: HostRuntime) -> Result<(), AllocError> {
     let square = square(rt.alloc(), &book, SQUARE)?;
     let all = [(4, 0, 0, 1), (4, 4, 0, 1), (0, 4, 0, 1), (0, 0, 0, 1)].as_slice();
     // x + y = 8 holds one corner, x = 9 and x = -3 none.
-    for k in [11, 12] {
-        let cut = cut_by(rt.alloc(), &book, &square, PlaneId { k })?;
-        assert!(rt; cut.front.is_empty());
-        assert_eq!(rt; cut.back.as_slice(), all);
-    }
-    let cut = cut_by(rt.alloc(), &book, &square, PlaneId { k: 13 })?;
-    assert_eq!(rt; cut.front.as_slice(), all);
-    assert!(rt; cut.back.is_empty());
+    let touched = cut_by(rt.alloc(), &book, &square, PlaneId { k: 11 })?;
+    assert!(rt; touched.front.is_empty());
+    assert_eq!(rt; touched.back.as_slice(), all);
+    let behind = cut_by(rt.alloc(), &book, &square, PlaneId { k: 12 })?;
+    assert!(rt; behind.front.is_empty());
+    assert_eq!(rt; behind.back.as_slice(), all);
+    let in_front = cut_by(rt.alloc(), &book, &square, PlaneId { k: 13 })?;
+    assert_eq!(rt; in_front.front.as_slice(), all);
+    assert!(rt; in_front.back.is_empty());
     Ok(())
 }
 
