@@ -4,10 +4,11 @@ use Rattle.spec_space.specs.declared.Point.{Point}
 use Rattle.spec_space.specs.Points.{IsPoint, value}
 use Rattle.plane_core.specs.declared.numbers.Plane.{Plane as BookPlane}
 use Rattle.plane_core.specs.declared.book.PlaneId.{PlaneId}
+use Rattle.poly_frag.specs.Cubes.{IsInsideCube}
 use Rattle.poly_frag.specs.Frags.{plane_at, IsInside}
 use Rattle.poly_frag.specs.Cycles.{IsFragment}
 use Rattle.poly_frag.specs.declared.frag.Frag.{Frag}
-use Rattle.plane_pieces.specs.Points.{IsOnSide, IsInsideCube, holds}
+use Rattle.plane_pieces.specs.Points.{IsOnSide, holds}
 use Rattle.plane_pieces.specs.declared.sides.Piece.{Piece}
 
 -- the flag says on which side of the plane each point strictly inside the fragment lies; at the fragment's own plane it is true

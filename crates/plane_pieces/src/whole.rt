@@ -17,11 +17,12 @@ fn uncut(alloc: Global, book: &PlaneBook, support: PlaneId) -> Result<Vec<Piece>
     ensures pieces { IfOk result (λ pieces. All (IsPiece book.now support 6) pieces.items) }
     ensures cover { IfOk result (λ pieces. AreDistinct book.now → BeginsWithWalls book.now → CoverPlane book.now support 6 pieces.items) }
 {
+    let Some(frag) = on_cube(alloc, book, support)? else {
+        return Ok(Vec::new(alloc));
+    };
+    let in_front = Vec::new(alloc);
     let mut pieces = Vec::new(alloc);
-    if let Some(frag) = on_cube(alloc, book, support)? {
-        let in_front = Vec::new(alloc);
-        pieces.push(Piece { frag, in_front })?;
-    }
+    pieces.push(Piece { frag, in_front })?;
     Ok(pieces)
 }
 
