@@ -1,13 +1,12 @@
 -- Laws of pieces for the crates above.
-use Rattle.std.proofs.Common.{◌≡◌, ◌≢◌, ◌⊎◌, inl, inr, ℕ, zero, suc, ◌+◌, ◌<◌, Bool, true, false, List, [], ◌∷◌, length, slice_get, Some, ℤ, pos, All, Contains, refl, sym, ap, ◌∙◌, subst, arith}
+use Rattle.std.proofs.Common.{◌≡◌, ℕ, zero, suc, ◌+◌, ◌<◌, Bool, true, List, [], ◌∷◌, length, slice_get, Some, refl, arith}
 use Rattle.std.specs.Prelude.{◌↔◌}
 use Rattle.spec_space.specs.declared.Point.{Point}
-use Rattle.spec_space.specs.Points.{IsPoint}
 use Rattle.plane_core.specs.declared.numbers.Plane.{Plane as BookPlane}
-use Rattle.poly_frag.specs.Frags.{plane_at, IsInside}
+use Rattle.poly_frag.specs.Frags.{IsInside}
 use Rattle.poly_frag.specs.declared.frag.Frag.{Frag}
-use Rattle.plane_pieces.specs.Points.{IsOnSide, holds}
-use Rattle.plane_pieces.specs.Pieces.{TellsSide, TellsSides, pieces_at}
+use Rattle.plane_pieces.specs.Points.{holds}
+use Rattle.plane_pieces.specs.Pieces.{TellsSide, TellsSides}
 use Rattle.plane_pieces.specs.declared.sides.Piece.{Piece}
 use Rattle.plane_pieces.proofs.Held.{inside_from_held, held_from_inside}
 
