@@ -1,8 +1,10 @@
 -- Laws of pieces for the crates above.
-use Rattle.std.proofs.Common.{◌≡◌, ℕ, zero, suc, ◌+◌, ◌<◌, Bool, true, List, [], ◌∷◌, length, slice_get, Some, refl, arith}
+use Rattle.std.proofs.Common.{◌≡◌, ◌⊎◌, inl, inr, ℕ, zero, suc, ◌+◌, ◌<◌, Bool, true, List, [], ◌∷◌, length, slice_get, Some, ℤ, pos, negsuc, ◌*ℤ◌, ◌<ℤ◌, ◌≤ℤ◌, refl, arith}
 use Rattle.std.specs.Prelude.{◌↔◌}
+use Rattle.std.proofs.lemmas.Int.{ints, by_lt_z}
 use Rattle.spec_space.specs.declared.Point.{Point}
 use Rattle.plane_core.specs.declared.numbers.Plane.{Plane as BookPlane}
+use Rattle.poly_frag.specs.Cubes.{IsInsideCube}
 use Rattle.poly_frag.specs.Frags.{IsInside}
 use Rattle.poly_frag.specs.declared.frag.Frag.{Frag}
 use Rattle.plane_pieces.specs.Points.{holds}
@@ -40,3 +42,44 @@ only_item (x ∷ y ∷ ys) e = absurd (omega arith)
 pub no_item : {X : Type 0} → (xs : List X) → length xs ≡ 0 → xs ≡ []
 no_item [] e = refl
 no_item (x ∷ xs) e = absurd (omega arith)
+
+-- ---- strictly inside the cube, or not
+-- on or beyond one of the cube's walls
+abbrev pub IsBeyondWalls : Point → Type 0
+IsBeyondWalls p = (p.x ≤ℤ (negsuc 1048576 *ℤ p.w)) ⊎ (((pos 1048577 *ℤ p.w) ≤ℤ p.x) ⊎ ((p.y ≤ℤ (negsuc 1048576 *ℤ p.w)) ⊎ (((pos 1048577 *ℤ p.w) ≤ℤ p.y) ⊎ ((p.z ≤ℤ (negsuc 1048576 *ℤ p.w)) ⊎ ((pos 1048577 *ℤ p.w) ≤ℤ p.z)))))
+
+below_or_not : (a b : ℤ) → (a <ℤ b) ⊎ (b ≤ℤ a)
+below_or_not a b = by_lt_z a b (λ l. inl l) (λ l. inr l)
+
+clash : (a b : ℤ) → a ≤ℤ b → b <ℤ a → ⊥
+clash a b h l = omega (arith, ints)
+
+pub inside_or_beyond : (p : Point) → IsInsideCube p ⊎ IsBeyondWalls p
+inside_or_beyond p = elim (below_or_not (negsuc 1048576 *ℤ p.w) p.x) [
+  | inr out ↦ inr (inl out)
+  | inl x_low ↦ elim (below_or_not p.x (pos 1048577 *ℤ p.w)) [
+    | inr out ↦ inr (inr (inl out))
+    | inl x_high ↦ elim (below_or_not (negsuc 1048576 *ℤ p.w) p.y) [
+      | inr out ↦ inr (inr (inr (inl out)))
+      | inl y_low ↦ elim (below_or_not p.y (pos 1048577 *ℤ p.w)) [
+        | inr out ↦ inr (inr (inr (inr (inl out))))
+        | inl y_high ↦ elim (below_or_not (negsuc 1048576 *ℤ p.w) p.z) [
+          | inr out ↦ inr (inr (inr (inr (inr (inl out)))))
+          | inl z_low ↦ elim (below_or_not p.z (pos 1048577 *ℤ p.w)) [
+            | inr out ↦ inr (inr (inr (inr (inr (inr out)))))
+            | inl z_high ↦ inl (record { x_low = x_low; x_high = x_high; y_low = y_low; y_high = y_high; z_low = z_low; z_high = z_high })
+          ]
+        ]
+      ]
+    ]
+  ]
+]
+
+-- a point beyond the walls is not inside
+pub beyond_not_inside : (p : Point) → IsBeyondWalls p → IsInsideCube p → ⊥
+beyond_not_inside p (inl out) c = clash p.x (negsuc 1048576 *ℤ p.w) out c.x_low
+beyond_not_inside p (inr (inl out)) c = clash (pos 1048577 *ℤ p.w) p.x out c.x_high
+beyond_not_inside p (inr (inr (inl out))) c = clash p.y (negsuc 1048576 *ℤ p.w) out c.y_low
+beyond_not_inside p (inr (inr (inr (inl out)))) c = clash (pos 1048577 *ℤ p.w) p.y out c.y_high
+beyond_not_inside p (inr (inr (inr (inr (inl out))))) c = clash p.z (negsuc 1048576 *ℤ p.w) out c.z_low
+beyond_not_inside p (inr (inr (inr (inr (inr out))))) c = clash (pos 1048577 *ℤ p.w) p.z out c.z_high
