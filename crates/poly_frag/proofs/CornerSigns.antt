@@ -1,12 +1,11 @@
 -- The corners of a fragment and the steps of its cycle: a corner and the start of its step have the same side of each plane.
-use Rattle.std.proofs.Common.{◌≡◌, ◌⊎◌, inl, inr, ℕ, zero, suc, ◌+◌, ◌<◌, List, [], ◌∷◌, map, length, get_or, ℤ, pos, ◌*ℤ◌, ◌<ℤ◌, ◌≤ℤ◌, Contains, refl, sym, subst, ◌∙◌, arith}
+use Rattle.std.proofs.Common.{◌≡◌, inl, inr, ℕ, zero, suc, ◌<◌, List, [], ◌∷◌, length, get_or, ℤ, pos, ◌*ℤ◌, ◌<ℤ◌, ◌≤ℤ◌, Contains, refl, sym, subst, ◌∙◌, arith}
 use Rattle.std.proofs.lemmas.Int.{ints}
 use Rattle.integer_laws.proofs.Ring.{*ℤ_comm}
 use Rattle.integer_laws.proofs.Signs.{mul_positive, mul_negative, mul_nonneg}
 use Rattle.spec_space.specs.declared.Plane.{Plane}
 use Rattle.spec_space.specs.Points.{value}
 use Rattle.plane_core.specs.declared.numbers.Corner.{Corner}
-use Rattle.plane_core.specs.Points.{IsSamePoint}
 use Rattle.plane_core.specs.Views.{point_of}
 use Rattle.plane_core.proofs.Cancel.{sign_cases, positive_right}
 use Rattle.convex_cycles.specs.Cycles.{Step, IsEdgeOf}

@@ -1,34 +1,31 @@
 -- The points strictly inside the part of a plane in the enclosing cube, where the plane is no wall.
-use Rattle.std.proofs.Common.{◌≡◌, ◌⊎◌, inl, inr, ℕ, zero, suc, ◌<◌, ◌≤◌, Bool, true, false, List, [], ◌∷◌, map, length, slice_get, ℤ, pos, negsuc, ◌<ℤ◌, ◌≤ℤ◌, All, refl, sym, ap, ◌∙◌, subst, arith}
-use Rattle.std.specs.Prelude.{◌↔◌, ◌≢◌}
+use Rattle.std.proofs.Common.{◌≡◌, inl, inr, ℕ, zero, suc, ◌<◌, ◌≤◌, List, [], ◌∷◌, length, slice_get, ℤ, pos, ◌<ℤ◌, ◌≤ℤ◌, All, sym, subst, arith}
+use Rattle.std.specs.Prelude.{◌≢◌}
 use Rattle.std.proofs.lemmas.Int.{ints}
 use Rattle.spec_space.specs.declared.Point.{Point}
-use Rattle.spec_space.specs.declared.Plane.{Plane}
-use Rattle.spec_space.specs.Points.{IsPoint, value, opposite}
+use Rattle.spec_space.specs.Points.{IsPoint, value}
 use Rattle.plane_core.specs.declared.numbers.Plane.{Plane as BookPlane}
-use Rattle.plane_core.specs.declared.book.PlaneId.{PlaneId}
 use Rattle.plane_core.specs.Books.{AreDistinct, BeginsWithWalls, cube_walls}
 use Rattle.plane_core.proofs.Laws.{walls_given}
 use Rattle.convex_cycles.specs.Cycles.{Step}
-use Rattle.convex_cycles.proofs.Lists.{Each, Member, each_from_all, all_from_each, each_member, each_from_members, each_map, each_from_map}
+use Rattle.convex_cycles.proofs.Lists.{Each, Member, each_from_all, all_from_each, each_member, each_map, each_from_map}
 use Rattle.convex_cycles.proofs.Crossings.{In}
-use Rattle.convex_cycles.proofs.Orders.{weaker, positive_unless}
-use Rattle.convex_cycles.proofs.Links.{IsLinked, sides, edge}
+use Rattle.convex_cycles.proofs.Orders.{positive_unless}
+use Rattle.convex_cycles.proofs.Links.{sides}
 use Rattle.convex_cycles.proofs.Hull.{strict_hull}
 use Rattle.convex_cycles.proofs.CutCycles.{to_cycle, linked}
 use Rattle.convex_cycles.proofs.Cuts.{some_front}
 use Rattle.poly_frag.specs.Cubes.{IsInCube, IsInsideCube, HoldsCubePoints}
-use Rattle.poly_frag.specs.Frags.{plane_at, kept_side, side_of, sides_of, support_of, IsInside, IsIn}
+use Rattle.poly_frag.specs.Frags.{plane_at, side_of, sides_of, support_of, IsInside}
 use Rattle.poly_frag.specs.Cycles.{IsFragment}
 use Rattle.poly_frag.specs.Squares.{low_edge, high_edge}
 use Rattle.poly_frag.specs.declared.frag.Edge.{Edge}
 use Rattle.poly_frag.specs.declared.frag.Frag.{Frag}
 use Rattle.poly_frag.specs.declared.axis.Axis.{Axis}
 use Rattle.poly_frag.specs.declared.axis.Axis.TheVariants.{X, Y, Z}
-use Rattle.poly_frag.proofs.Kept.{value_opposite}
 use Rattle.poly_frag.proofs.Starts.{on_plane}
 use Rattle.poly_frag.proofs.Splitting.{not_all_on}
-use Rattle.poly_frag.proofs.Across.{low_side, high_side, low_edge_side, high_edge_side, low_given, high_given, plane_or, wall_numbered, cube_by_axes, IsBetween, each_between}
+use Rattle.poly_frag.proofs.Across.{low_side, high_side, low_edge_side, high_edge_side, low_given, high_given, plane_or, wall_numbered, cube_by_axes, each_between}
 
 level : (x : ℤ) → pos 0 ≤ℤ x → x ≤ℤ pos 0 → x ≡ pos 0
 level x h k = omega (arith, ints)
@@ -119,9 +116,11 @@ pub inside_cube_from : (planes : List BookPlane) (f : Frag) → HoldsCubePoints 
     → (p : Point) → IsPoint p → value (support_of planes f) p ≡ pos 0 → IsInsideCube p → IsInside planes f p
 inside_cube_from planes f points edges walls p is on c =
     let here = (points p is).1 (on, in_cube p c) in
-    let es = f.edges.items in
-    (on, all_from_each (λ h. pos 0 <ℤ value h p) (sides_of planes f) (each_map (λ h. pos 0 <ℤ value h p) (side_of planes) es
-        (each_strictly planes walls p c es (each_from_all (λ e. e.plane.k < 6) es edges) (each_from_map (λ h. pos 0 ≤ℤ value h p) (side_of planes) es (each_from_all (λ h. pos 0 ≤ℤ value h p) (sides_of planes f) here.1)))))
+    let es = f.edges.items in (
+      on,
+      all_from_each (λ h. pos 0 <ℤ value h p) (sides_of planes f) (each_map (λ h. pos 0 <ℤ value h p) (side_of planes) es
+          (each_strictly planes walls p c es (each_from_all (λ e. e.plane.k < 6) es edges) (each_from_map (λ h. pos 0 ≤ℤ value h p) (side_of planes) es (each_from_all (λ h. pos 0 ≤ℤ value h p) (sides_of planes f) here.1)))),
+    )
 
 pub inside_cube_of : (planes : List BookPlane) (f : Frag) → IsFragment planes f → AreDistinct planes → BeginsWithWalls planes → 6 ≤ f.support.k → (p : Point) → IsInside planes f p → IsInsideCube p
 inside_cube_of planes f fragment distinct walls no_wall p inside = inside_from_sides p (low_strict planes f fragment distinct walls no_wall p inside) (high_strict planes f fragment distinct walls no_wall p inside)

@@ -1,5 +1,5 @@
 -- A book that has grown: the fragments of its planes are the same.
-use Rattle.std.proofs.Common.{◌≡◌, ℕ, ◌<◌, ◌≤◌, List, [], ◌∷◌, map, length, slice_get, ℤ, pos, ◌<ℤ◌, ◌≤ℤ◌, All, refl, sym, ap, ◌∙◌, subst, arith}
+use Rattle.std.proofs.Common.{◌≡◌, ℕ, ◌<◌, ◌≤◌, List, [], ◌∷◌, map, length, slice_get, pos, refl, sym, ap, ◌∙◌, subst, arith}
 use Rattle.std.specs.Prelude.{◌↔◌}
 use Rattle.spec_space.specs.declared.Point.{Point}
 use Rattle.spec_space.specs.declared.Plane.{Plane}
@@ -12,7 +12,7 @@ use Rattle.convex_cycles.specs.Cycles.{AreConvex}
 use Rattle.convex_cycles.specs.Sides.{IsWithin, IsTouching}
 use Rattle.convex_cycles.proofs.Lists.{Each, each_from_all, all_from_each, each_weaker}
 use Rattle.poly_frag.specs.Frags.{numbered, plane_at, kept_side, side_of, sides_of, support_of, IsInside, IsIn}
-use Rattle.poly_frag.specs.Cycles.{IsCycle, IsFragment, IsMeetOf, AreMeets, AreMeetsRound, AreCorners, last_edge}
+use Rattle.poly_frag.specs.Cycles.{IsFragment, IsMeetOf, AreMeets, AreMeetsRound, AreCorners, last_edge}
 use Rattle.poly_frag.specs.declared.frag.Edge.{Edge}
 use Rattle.poly_frag.specs.declared.frag.Frag.{Frag}
 

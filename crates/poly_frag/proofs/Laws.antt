@@ -1,5 +1,5 @@
 -- Laws of fragments for the crates above: what their corners say of their points, and in which books they stand.
-use Rattle.std.proofs.Common.{◌≡◌, ◌<◌, ◌≤◌, List, map, length, ℤ, pos, ◌<ℤ◌, ◌≤ℤ◌, All, Contains, sym, subst}
+use Rattle.std.proofs.Common.{◌≡◌, ◌<◌, ◌≤◌, List, pos, ◌<ℤ◌, ◌≤ℤ◌, All, Contains, sym, subst}
 use Rattle.std.specs.Prelude.{◌↔◌}
 use Rattle.spec_space.specs.declared.Point.{Point}
 use Rattle.spec_space.specs.declared.Plane.{Plane}
@@ -21,7 +21,7 @@ use Rattle.poly_frag.specs.Frags.{side_of, sides_of, support_of, IsInside, IsIn,
 use Rattle.poly_frag.specs.Cycles.{IsFragment, AreCorners}
 use Rattle.poly_frag.specs.declared.frag.Edge.{Edge}
 use Rattle.poly_frag.specs.declared.frag.Frag.{Frag}
-use Rattle.poly_frag.proofs.Starts.{AreStarts, starts_of}
+use Rattle.poly_frag.proofs.Starts.{starts_of}
 use Rattle.poly_frag.proofs.CornerSigns.{contains_member, member_contains, starts_nonneg, start_in_front, corner_in_front, step_of}
 use Rattle.poly_frag.proofs.KeptBooks.{HasGrown, IsKept, is_kept}
 use Rattle.poly_frag.proofs.InsideCube.{inside_cube_from, inside_cube_of}
