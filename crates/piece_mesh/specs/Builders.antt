@@ -1,5 +1,6 @@
 -- What a mesh in the making holds.
-use Rattle.std.specs.Prelude.{◌≡◌, ◌<◌, ◌++◌, ◌⊎◌, ℕ, List, length, map, Any, Contains}
+use Rattle.std.specs.Prelude.{◌≡◌, ◌≢◌, ◌<◌, ◌++◌, ◌⊎◌, ℕ, List, length, map, Any, Contains}
+use Rattle.std.specs.List.{AllPairs}
 use Rattle.plane_core.specs.declared.numbers.Corner.{Corner}
 use Rattle.spec_page.specs.Element.{Face}
 use Rattle.exact_mesh.specs.Meshes.{face_of}
@@ -12,6 +13,10 @@ corners_of b = b.corners.keys
 -- its faces, in order
 abbrev pub faces_of : MeshBuilder → List Face
 faces_of b = map face_of b.faces.items
+
+-- no corner stands twice
+abbrev pub AreDistinct : List Corner → Type 0
+AreDistinct corners = AllPairs (λ c d. c ≢ d) corners
 
 -- the old corners have kept their places, and new ones stand behind them
 abbrev pub IsGrown : List Corner → List Corner → Type 0

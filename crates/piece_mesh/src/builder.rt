@@ -1,9 +1,8 @@
-ghost use Rattle.std.specs.Prelude.{◌≡◌, ◌≢◌, ◌++◌, ◌∷◌, [], Some, map, length, slice_get, IfOk, OnOk};
-ghost use Rattle.std.specs.List.{AllPairs};
+ghost use Rattle.std.specs.Prelude.{◌≡◌, ◌++◌, ◌∷◌, [], Some, map, length, slice_get, IfOk, OnOk};
 ghost use Rattle.spec_page.specs.Element.{Face};
 ghost use Rattle.exact_mesh.specs.Meshes.{face_of};
 ghost use Rattle.poly_frag.specs.Cycles.{IsCycle};
-ghost use Rattle.piece_mesh.specs.Builders.{corners_of, faces_of, IsGrown, AreUsed, AreFresh};
+ghost use Rattle.piece_mesh.specs.Builders.{corners_of, faces_of, AreDistinct, IsGrown, AreUsed, AreFresh};
 ghost use Rattle.piece_mesh.specs.Pieces.{AreAt, IsFaceOf};
 
 use crate::outward::{outward_corners, outward_edges, outward_numbers};
@@ -46,7 +45,7 @@ impl MeshBuilder {
         requires cycle { IsCycle book.now frag.now }
         ensures face { OnOk result ((face : Face) × (faces_of self.new ≡ faces_of self.old ++ face ∷ []) × IsFaceOf book.now frag.now front_out (corners_of self.new) face) }
         ensures corners { OnOk result (IsGrown (corners_of self.old) (corners_of self.new)) }
-        ensures distinct { OnOk result (AllPairs (λ c d. c ≢ d) (corners_of self.new)) }
+        ensures distinct { OnOk result (AreDistinct (corners_of self.old) → AreDistinct (corners_of self.new)) }
         ensures used { OnOk result (AreUsed (corners_of self.old) (faces_of self.old) → AreUsed (corners_of self.new) (faces_of self.new)) }
     {
         let plane = outward_numbers(book.plane(frag.support), front_out);
@@ -67,6 +66,7 @@ impl MeshBuilder {
         ensures at { IfOk result (λ places. AreAt (corners_of self.new) places.items around.now) }
         ensures grown { IsGrown (corners_of self.old) (corners_of self.new) }
         ensures fresh { IfOk result (λ places. AreFresh (corners_of self.old) (corners_of self.new) places.items) }
+        ensures distinct { OnOk result (AreDistinct (corners_of self.old) → AreDistinct (corners_of self.new)) }
         ensures faces { self.new.faces ≡ self.old.faces }
     {
         let mut places = Vec::new(alloc);
@@ -81,6 +81,7 @@ impl MeshBuilder {
         ensures at { IfOk result (λ place. slice_get (corners_of self.new) place ≡ Some corner) }
         ensures grown { IsGrown (corners_of self.old) (corners_of self.new) }
         ensures fresh { IfOk result (λ place. AreFresh (corners_of self.old) (corners_of self.new) (place ∷ [])) }
+        ensures distinct { OnOk result (AreDistinct (corners_of self.new)) }
         ensures faces { self.new.faces ≡ self.old.faces }
     {
         let (place, _) = self.corners.insert_full(corner)?;
@@ -91,7 +92,7 @@ impl MeshBuilder {
     pub fn finish(self, alloc: Global) -> Result<ExactMesh, AllocError>
         ensures corners { IfOk result (λ mesh. mesh.corners.items ≡ corners_of self) }
         ensures faces { IfOk result (λ mesh. map face_of mesh.faces.items ≡ faces_of self) }
-        ensures distinct { IfOk result (λ mesh. AllPairs (λ c d. c ≢ d) mesh.corners.items) }
+        ensures distinct { IfOk result (λ mesh. AreDistinct mesh.corners.items) }
     {
         let corners = Vec::from_slice(alloc, self.corners.as_slice())?;
         Ok(ExactMesh {

@@ -2,10 +2,10 @@
 #![tactic(auto)]
 
 mod builder;
+mod micrometres;
 mod outward;
-mod printed;
 #[cfg(test)]
 mod tests;
 
 pub use builder::MeshBuilder;
-pub use printed::printed;
+pub use micrometres::printed;
