@@ -1,4 +1,5 @@
 pub mod Rows
 pub mod Along
+pub mod Rings
 pub mod Corners
 pub mod Turned
