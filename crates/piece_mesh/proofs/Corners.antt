@@ -14,7 +14,7 @@ use Rattle.plane_core.specs.declared.numbers.Corner.{Corner}
 use Rattle.piece_mesh.specs.Builders.{AreDistinct, IsGrown, AreFresh}
 use Rattle.piece_mesh.specs.Pieces.{AreAt}
 
-same_corner : (c d : Corner) → c.x ≡ d.x → c.y ≡ d.y → c.z ≡ d.z → c.w ≡ d.w → c ≡ d
+pub same_corner : (c d : Corner) → c.x ≡ d.x → c.y ≡ d.y → c.z ≡ d.z → c.w ≡ d.w → c ≡ d
 same_corner c d x y z w = λ i. record {
   x = x i;
   y = y i;
@@ -86,7 +86,7 @@ get_append [] ys k c e = cc
 get_append (x ∷ xs) ys zero c e = e
 get_append (x ∷ xs) ys (suc k) c e = get_append xs ys k c e
 
-at_append : (keys more : List Corner) (ps : List ℕ) (cs : List Corner) → AreAt keys ps cs → AreAt (keys ++ more) ps cs
+pub at_append : (keys more : List Corner) (ps : List ℕ) (cs : List Corner) → AreAt keys ps cs → AreAt (keys ++ more) ps cs
 at_append keys more [] [] a = tt
 at_append keys more (p ∷ ps) (c ∷ cs) a = (get_append keys more p c a.0, at_append keys more ps cs a.1)
 at_append keys more _ _ a = absurd a

@@ -3,3 +3,4 @@ pub mod Along
 pub mod Rings
 pub mod Corners
 pub mod Turned
+pub mod Faces
