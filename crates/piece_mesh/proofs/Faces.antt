@@ -1,5 +1,5 @@
 -- The faces of a mesh from pieces are full, hold the points of their pieces, and have each corner once.
-use Rattle.std.proofs.Common.{◌≡◌, ◌≢◌, inl, inr, ℕ, zero, suc, ◌+◌, ◌<◌, ◌≤◌, Bool, true, false, ◌&&◌, ◌==◌, List, [], ◌∷◌, ◌++◌, Some, map, reverse, length, slice_get, slice_index_or, ℤ, pos, neg_ℤ, ◌<ℤ◌, ◌≤ℤ◌, int_lt, unsigned_abs, refl, sym, ap, ◌∙◌, subst, arith}
+use Rattle.std.proofs.Common.{◌≡◌, ◌≢◌, inl, inr, ℕ, zero, suc, ◌+◌, ◌<◌, ◌≤◌, Bool, true, false, ◌&&◌, ◌==◌, List, [], ◌∷◌, ◌++◌, Some, map, reverse, length, slice_get, slice_index_or, Contains, ℤ, pos, neg_ℤ, ◌<ℤ◌, ◌≤ℤ◌, int_lt, unsigned_abs, refl, sym, ap, ◌∙◌, subst, arith}
 use Rattle.std.specs.Prelude.{◌↔◌}
 use Rattle.std.proofs.lemmas.Int.{ints}
 use Rattle.std.specs.List.{list_all, All, AllPairs, Any}
@@ -17,7 +17,7 @@ use Rattle.plane_core.specs.declared.numbers.Plane.{Plane as BookPlane}
 use Rattle.plane_core.specs.declared.numbers.Corner.{Corner}
 use Rattle.plane_core.specs.Views.{point_of}
 use Rattle.convex_cycles.specs.Cycles.{Step}
-use Rattle.convex_cycles.proofs.Lists.{Each, Member, each_from_all, all_from_each, all_from_pair, each_weaker, each_map, each_from_map}
+use Rattle.convex_cycles.proofs.Lists.{Each, EachPair, Member, each_from_all, all_from_each, all_from_pair, pair_from_all, each_weaker, each_map, each_from_map}
 use Rattle.convex_cycles.proofs.Orders.{turned_up, negative_sign, turned_down}
 use Rattle.convex_cycles.proofs.Hull.{value-opposite, opposite_front, from_opposite_front}
 use Rattle.poly_frag.specs.Frags.{kept_side, side_of, sides_of, support_of, IsInside}
@@ -25,7 +25,7 @@ use Rattle.poly_frag.specs.Cycles.{IsCycle}
 use Rattle.poly_frag.specs.declared.frag.Edge.{Edge}
 use Rattle.poly_frag.specs.declared.frag.Frag.{Frag}
 use Rattle.poly_frag.proofs.Starts.{AreStarts, starts_of}
-use Rattle.piece_mesh.specs.Builders.{AreDistinct, IsGrown}
+use Rattle.piece_mesh.specs.Builders.{AreDistinct, AreUsed, IsGrown}
 use Rattle.piece_mesh.specs.Pieces.{outer_side, edges_seen, corners_seen, AreAt, HasCornersSeen, IsFaceOf}
 use Rattle.piece_mesh.proofs.Rows.{Rows, map-reverse, map-rotated, each_reverse, each_from_reverse, each_rotated, each_from_rotated}
 use Rattle.piece_mesh.proofs.Rings.{HasBehind, IsRing, front_ring, back_ring}
@@ -243,3 +243,25 @@ same_point c d e = same_corner c d (ap (λ p. p.x) e) (ap (λ p. p.y) e) (ap (λ
 points_positive : (corners : List Corner) → Each IsPoint (map point_of corners)
 points_positive [] = tt
 points_positive (c ∷ cs) = (c.positive, points_positive cs)
+
+pair_map : {X Y : Type 0} (f : X → Y) → ((x y : X) → f x ≡ f y → x ≡ y) → (xs : List X) → EachPair (λ x y. x ≢ y) xs → EachPair (λ x y. x ≢ y) (map f xs)
+pair_map f one [] e = tt
+pair_map f one (x ∷ xs) e = (each_map (λ y. f x ≢ y) f xs (each_weaker (λ y. x ≢ y) (λ y. f x ≢ f y) (λ y apart same. apart (one x y same)) xs e.0), pair_map f one xs e.1)
+
+pair_from_map : {X Y : Type 0} (f : X → Y) (xs : List X) → EachPair (λ x y. x ≢ y) (map f xs) → EachPair (λ x y. f x ≢ f y) xs
+pair_from_map f [] e = tt
+pair_from_map f (x ∷ xs) e = (each_from_map (λ y. f x ≢ y) f xs e.0, pair_from_map f xs e.1)
+
+module _ (e : Element) (corners : List Corner) (same : HasCorners e corners) where
+  pub exact-IsPoint : All (λ c. IsPoint c.exact) e.corners
+  exact-IsPoint = all_from_each (λ c. IsPoint c.exact) e.corners (each_from_map IsPoint (λ (c : PageCorner). c.exact) e.corners (subst (Each IsPoint) (sym same) (points_positive corners)))
+
+  pub exact_differ : AreDistinct corners → AllPairs (λ c d. c.exact ≢ d.exact) e.corners
+  exact_differ distinct = all_from_pair (λ c d. c.exact ≢ d.exact) e.corners (pair_from_map (λ (c : PageCorner). c.exact) e.corners
+      (subst (EachPair (λ p q. p ≢ q)) (sym same) (pair_map point_of same_point corners (pair_from_all (λ c d. c ≢ d) corners distinct))))
+
+  pub exact_used : AreUsed corners e.faces → (i : ℕ) → i < length e.corners → Any (λ f. Contains f.corners i) e.faces
+  exact_used used i below = used i (moved (length e.corners) (length corners) (same_count e corners same) below)
+    where
+      moved : (n m : ℕ) → n ≡ m → i < n → i < m
+      moved n m e h = omega arith

@@ -4,3 +4,4 @@ pub mod Rings
 pub mod Corners
 pub mod Turned
 pub mod Faces
+pub mod Scaled
