@@ -47,10 +47,13 @@ record IsProportional (d w : Vector) (a b : ℤ) : Type 0 where
 goes : (d w : Vector) (a b : ℤ) → IsProportional d w a b → GoesAlong d w
 goes d w a b p = elim (zero_or d.x) [
   | inr x ↦ inl (same_sign a b d.x w.x p.first p.second p.along_x x)
-  | inl x ↦ inr (x, elim (zero_or d.y) [
-    | inr y ↦ inl (same_sign a b d.y w.y p.first p.second p.along_y y)
-    | inl y ↦ inr (y, same_sign a b d.z w.z p.first p.second p.along_z (p.some x y))
-  ])
+  | inl x ↦ inr (
+    x,
+    elim (zero_or d.y) [
+      | inr y ↦ inl (same_sign a b d.y w.y p.first p.second p.along_y y)
+      | inl y ↦ inr (y, same_sign a b d.z w.z p.first p.second p.along_z (p.some x y))
+    ],
+  )
 ]
 
 -- ---- along an edge

@@ -203,9 +203,9 @@ module _ (planes : List BookPlane) (f : Frag) (front_out : Bool) (p : Point) whe
       let parts = both (unsigned_abs (value h p) == 0) (list_all behind_edge edges) e in (
         from_on_kept front_out (support_of planes f) p (size_zero (value h p) (eqb-true (unsigned_abs (value h p)) 0 parts.0)),
         all_from_each (λ k. pos 0 <ℤ value k p) (sides_of planes f) (each_map (λ k. pos 0 <ℤ value k p) (side_of planes) f.edges.items
-        (each_weaker (λ e. behind_edge (outer_side planes e) ≡ true) (λ e. pos 0 <ℤ value (side_of planes e) p) (λ e t. from_test_outer (side_of planes e) p t) f.edges.items
-        (each_from_seen (λ e. behind_edge (outer_side planes e) ≡ true) front_out f.edges.items
-        (each_from_map (λ m. behind_edge m ≡ true) (outer_side planes) (edges_seen front_out f.edges.items) (all_true behind_edge edges parts.1))))),
+            (each_weaker (λ e. behind_edge (outer_side planes e) ≡ true) (λ e. pos 0 <ℤ value (side_of planes e) p) (λ e t. from_test_outer (side_of planes e) p t) f.edges.items
+            (each_from_seen (λ e. behind_edge (outer_side planes e) ≡ true) front_out f.edges.items
+            (each_from_map (λ m. behind_edge m ≡ true) (outer_side planes) (edges_seen front_out f.edges.items) (all_true behind_edge edges parts.1))))),
       )
 
   inside_lies : (corners : List ℕ) → IsInside planes f p → lies_on (seen_face corners) p ≡ true

@@ -109,9 +109,10 @@ chain_rows s points e [] last c [] first is behind chain a same =
     ((run_of s e (point_of c) (point_of first) c.positive first.positive is.0 a.0 (subst (IsSamePoint (point_of first)) (sym chain.0) same), behind.0), tt)
 chain_rows s points e [] last c (d ∷ cs) first is behind chain a same = absurd a.1
 chain_rows s points e (f ∷ fs) last c [] first is behind chain a same = absurd a.1
-chain_rows s points e (f ∷ fs) last c (d ∷ cs) first is behind chain a same =
-    ((run_of s e (point_of c) (point_of d) c.positive d.positive is.0 a.0 (subst (IsSamePoint (point_of d)) (sym chain.0.0) a.1.0), behind.0),
-      chain_rows s points f fs last d cs first is.1 behind.1 chain.1 a.1 same)
+chain_rows s points e (f ∷ fs) last c (d ∷ cs) first is behind chain a same = (
+  (run_of s e (point_of c) (point_of d) c.positive d.positive is.0 a.0 (subst (IsSamePoint (point_of d)) (sym chain.0.0) a.1.0), behind.0),
+  chain_rows s points f fs last d cs first is.1 behind.1 chain.1 a.1 same,
+)
 
 round_rows : (s : Plane) (points : List Point) (steps : List Step) (cs : List Corner) → CycleFacts s steps → Each (λ f. Each (λ p. value (outer f) p ≤ℤ pos 0) points) steps → AreStarts cs steps
     → Rows (IsBounded s points) (map outer steps) (map point_of cs) (rotated (map point_of cs))
