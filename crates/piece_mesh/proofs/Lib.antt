@@ -5,3 +5,4 @@ pub mod Corners
 pub mod Turned
 pub mod Faces
 pub mod Scaled
+pub mod Meshes
