@@ -1,9 +1,8 @@
 -- The faces of a mesh, each the face of a piece: full, on the planes of their pieces, and lying where the pieces do.
-use Rattle.std.proofs.Common.{◌≡◌, Bool, true, false, true≢false, cond, List, [], ◌∷◌, ◌++◌, map, filter, refl, sym, ap, ◌∙◌}
+use Rattle.std.proofs.Common.{◌≡◌, Bool, true, false, true≢false, cond, List, [], ◌∷◌, ◌++◌, map, filter, refl, sym}
 use Rattle.std.specs.Prelude.{◌↔◌}
 use Rattle.std.specs.List.{All}
 use Rattle.spec_space.specs.declared.Point.{Point}
-use Rattle.spec_space.specs.declared.Plane.{Plane}
 use Rattle.spec_page.specs.Element.{Face, Element}
 use Rattle.spec_page.specs.Faces.{IsFull, lies_on, faces_at}
 use Rattle.plane_core.specs.declared.numbers.Plane.{Plane as BookPlane}

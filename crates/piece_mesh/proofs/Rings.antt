@@ -13,10 +13,10 @@ use Rattle.plane_core.specs.Points.{IsSamePoint}
 use Rattle.plane_core.specs.Views.{point_of}
 use Rattle.plane_core.proofs.Cancel.{zero_right, positive_right, nonpos_right, mul_nonpos}
 use Rattle.convex_cycles.specs.Cycles.{Step, IsEdgeOf, AreChained, IsRound, Keeps, KeepEachOther, AreConvex, turn}
-use Rattle.convex_cycles.proofs.Lists.{Each, EachPair, Member, all_from_each, each_from_members, each_weaker, each_map}
+use Rattle.convex_cycles.proofs.Lists.{Each, EachPair, Member, all_from_each, each_from_members, each_weaker}
 use Rattle.convex_cycles.proofs.Orders.{weaker, turned_down}
 use Rattle.convex_cycles.proofs.Turns.{turned}
-use Rattle.convex_cycles.proofs.Links.{IsLinked, HasStep, edge, far_corner, each_mapped}
+use Rattle.convex_cycles.proofs.Links.{IsLinked, edge, far_corner, each_mapped}
 use Rattle.convex_cycles.proofs.Hull.{value-opposite, opposite_low}
 use Rattle.convex_cycles.proofs.CutCycles.{CycleFacts, to_cycle, linked}
 use Rattle.poly_frag.proofs.Starts.{AreStarts, same_values}
