@@ -6,3 +6,4 @@ pub mod Turned
 pub mod Faces
 pub mod Scaled
 pub mod Meshes
+pub mod Reach

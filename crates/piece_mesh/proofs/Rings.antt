@@ -33,7 +33,7 @@ on_corner h p q hq s e = zero_right q.w (value h p) hq (*ℤ_comm q.w (value h p
 in_corner : (h : Plane) (p q : Point) → IsPoint p → IsPoint q → IsSamePoint p q → pos 0 <ℤ value h q → pos 0 <ℤ value h p
 in_corner h p q hp hq s i = positive_right q.w (value h p) hq (subst (λ v. pos 0 <ℤ v) (sym (same_values h p q s) ∙ *ℤ_comm (value h p) q.w) (mul_positive (value h q) p.w i hp))
 
-behind_corner : (h : Plane) (p q : Point) → IsPoint p → IsPoint q → IsSamePoint p q → value h q ≤ℤ pos 0 → value h p ≤ℤ pos 0
+pub behind_corner : (h : Plane) (p q : Point) → IsPoint p → IsPoint q → IsSamePoint p q → value h q ≤ℤ pos 0 → value h p ≤ℤ pos 0
 behind_corner h p q hp hq s l = nonpos_right q.w (value h p) hq (subst (λ v. v ≤ℤ pos 0) (*ℤ_comm p.w (value h q) ∙ sym (same_values h p q s) ∙ *ℤ_comm (value h p) q.w) (mul_nonpos p.w (value h q) (weaker p.w hp) l))
 
 -- a fact of each corner from one of each step's start
