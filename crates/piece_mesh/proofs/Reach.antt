@@ -1,8 +1,7 @@
 -- The corners of a mesh from fragments lie in the closed cube, so their coordinates are small.
-use Rattle.std.proofs.Common.{◌≡◌, inl, inr, ℕ, zero, suc, ◌*◌, ◌≤◌, ◌<◌, ◌^◌, List, [], ◌∷◌, ◌++◌, Some, map, reverse, length, slice_get, slice_index_or, Contains, ℤ, pos, negsuc, ◌+ℤ◌, ◌-ℤ◌, ◌*ℤ◌, ◌<ℤ◌, ◌≤ℤ◌, unsigned_abs, refl, sym, ap, ◌∙◌, subst, arith, true, false, Bool}
+use Rattle.std.proofs.Common.{◌≡◌, ℕ, zero, suc, ◌*◌, ◌≤◌, ◌<◌, ◌^◌, List, [], ◌∷◌, Some, length, slice_get, slice_index_or, Contains, ℤ, pos, negsuc, ◌+ℤ◌, ◌-ℤ◌, ◌*ℤ◌, ◌<ℤ◌, ◌≤ℤ◌, unsigned_abs, sym, subst, arith, true, false, Bool}
 use Rattle.std.proofs.lemmas.Int.{ints}
-use Rattle.std.proofs.lemmas.List.{reverse-reverse}
-use Rattle.std.specs.List.{All, Any}
+use Rattle.std.specs.List.{All}
 use Rattle.spec_space.specs.declared.Point.{Point}
 use Rattle.spec_space.specs.declared.Plane.{Plane}
 use Rattle.spec_space.specs.Points.{IsPoint, value}
@@ -12,7 +11,7 @@ use Rattle.plane_core.specs.declared.numbers.Corner.{Corner}
 use Rattle.plane_core.specs.Points.{IsSamePoint}
 use Rattle.plane_core.specs.Views.{point_of}
 use Rattle.convex_cycles.specs.Cycles.{Step, IsEdgeOf}
-use Rattle.convex_cycles.proofs.Lists.{Each, Member, each_member, each_from_all, each_both}
+use Rattle.convex_cycles.proofs.Lists.{Each, each_from_all, each_both}
 use Rattle.poly_frag.specs.Cubes.{IsInCube}
 use Rattle.poly_frag.specs.Frags.{support_of}
 use Rattle.poly_frag.specs.Cycles.{IsFragment}
