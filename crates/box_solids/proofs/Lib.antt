@@ -1,3 +1,5 @@
 pub mod Grid
 pub mod Listed
 pub mod Told
+pub mod Walls
+pub mod Neighbours

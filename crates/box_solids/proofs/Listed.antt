@@ -85,7 +85,7 @@ z_times c k s = (times_zero k.c k.a s.a, times_zero k.c k.b s.b, times_one k.c, 
 listed_along : (ks : List Plane) (h k : Plane) → h ≡ k → IsListed ks k → IsListed ks h
 listed_along ks h k e l = subst (IsListed ks) (sym e) l
 
-listed_itself : (ks : List Plane) (k : Plane) → Contains ks k → IsListed ks k
+pub listed_itself : (ks : List Plane) (k : Plane) → Contains ks k → IsListed ks k
 listed_itself ks k c = (k, pos 1, c, one_runs, times_itself k)
 
 -- what is many times a listed wall is covered
