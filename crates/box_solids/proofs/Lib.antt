@@ -3,3 +3,5 @@ pub mod Listed
 pub mod Told
 pub mod Walls
 pub mod Neighbours
+pub mod Outside
+pub mod Reduced
