@@ -1,7 +1,7 @@
 pub mod Grid
 pub mod Listed
-pub mod Told
-pub mod Walls
+pub mod Meaning
+pub mod WallPlanes
 pub mod Neighbours
 pub mod Outside
 pub mod Reduced

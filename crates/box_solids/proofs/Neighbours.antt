@@ -19,8 +19,8 @@ use Rattle.box_mesh.proofs.Orders.{test_true, test_false}
 use Rattle.box_mesh.proofs.Sides.{value_x, value_y, value_z}
 use Rattle.box_solids.specs.Trees.{Tree, Leaf, Joined, body_of, has_walls, walls_of, is_between_walls, told_by, is_in_front, is_plane, is_in_front_across}
 use Rattle.box_solids.specs.Far.{IsFar, far_left, far_right, far_front, far_back, far_down, far_up}
-use Rattle.box_solids.proofs.Told.{Tells, told_at}
-use Rattle.box_solids.proofs.Walls.{IsWall, across_x, across_y, across_z, is_wall, wall_is_plane}
+use Rattle.box_solids.proofs.Meaning.{Tells, told_at}
+use Rattle.box_solids.proofs.WallPlanes.{IsWall, across_x, across_y, across_z, is_wall, wall_is_plane}
 
 -- ---- two points on the same sides
 -- the points lie on the same side of the plane, and neither is on it
