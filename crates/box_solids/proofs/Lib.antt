@@ -5,3 +5,7 @@ pub mod WallPlanes
 pub mod Neighbours
 pub mod Outside
 pub mod Reduced
+pub mod Numbers
+pub mod Additions
+pub mod BookLaws
+pub mod SmallPlanes

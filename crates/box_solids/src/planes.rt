@@ -1,4 +1,4 @@
-ghost use Rattle.std.specs.Prelude.{◌≡◌, ◌^◌, ◌≤◌, ◌<◌, ◌+◌, ◌∷◌, [], length, IfOk, OnOk};
+ghost use Rattle.std.specs.Prelude.{◌≡◌, ◌^◌, ◌≤◌, ◌<◌, ◌+◌, ◌∷◌, [], length, All, IfOk, OnOk};
 ghost use Rattle.box_solids.specs.Trees.{Leaf, body_of, planes_of};
 ghost use Rattle.box_solids.specs.Views.{tree_of};
 ghost use Rattle.plane_core.specs.Planes.{IsReductionOf};
@@ -33,19 +33,29 @@ fn add_plane(book: &mut PlaneBook, plane: &Plane) -> Result<(), AllocError>
     Ok(())
 }
 
+/// Adds the reduced forms of planes to a book.
+fn add_all(book: &mut PlaneBook, planes: &[Plane]) -> Result<(), AllocError>
+    requires room { length book.old + length planes.now ≤ 2 ^ 31 }
+    requires small { All IsSmallPlane planes.now }
+    ensures added { OnOk result (HasAdded book.old planes.now book.new) }
+    ensures kept { IsKept book.old book.new }
+{
+    for plane in planes {
+        add_plane(book, plane)?;
+    }
+    Ok(())
+}
+
 /// Adds the planes of a box to a book.
 fn add_box(book: &mut PlaneBook, bounds: &Bounds) -> Result<(), AllocError>
-    requires room { length book.old + 7 ≤ 2 ^ 31 }
+    requires room { length book.old + length (planes_of (Leaf bounds.now)) ≤ 2 ^ 31 }
     ensures added { OnOk result (HasAdded book.old (planes_of (Leaf bounds.now)) book.new) }
     ensures kept { IsKept book.old book.new }
 {
     if !has_walls(bounds) {
         return Ok(());
     }
-    for plane in &box_planes(bounds) {
-        add_plane(book, plane)?;
-    }
-    Ok(())
+    add_all(book, &box_planes(bounds))
 }
 
 /// Adds the planes of a solid of boxes to a book, each once: the walls of its boxes, and the upright plane through the
