@@ -61,6 +61,7 @@ fn add_box(book: &mut PlaneBook, bounds: &Bounds) -> Result<(), AllocError>
 /// Adds the planes of a solid of boxes to a book, each once: the walls of its boxes, and the upright plane through the
 /// diagonals of each box, along which its bottom and its top are cut into triangles. A box that is flat along x or y has
 /// none. The error is want of memory, and then some of the planes were added.
+#[tactic(auto, using(crate::proofs::Additions::added_both, crate::proofs::Additions::kept_further))]
 pub fn add_planes(book: &mut PlaneBook, solid: &BoxSolid) -> Result<(), AllocError>
     requires room { length book.old + length (planes_of (tree_of solid.now)) ≤ 2 ^ 31 }
     ensures added { OnOk result (HasAdded book.old (planes_of (tree_of solid.now)) book.new) }
@@ -77,6 +78,7 @@ pub fn add_planes(book: &mut PlaneBook, solid: &BoxSolid) -> Result<(), AllocErr
 
 /// The book of an element of boxes: from number 6 on it has the planes of the element, and no others. The error is want of
 /// memory.
+#[tactic(auto, using(crate::proofs::BookLaws::book_of_element))]
 pub fn plane_book(alloc: Global, solid: &BoxSolid) -> Result<PlaneBook, AllocError>
     requires room { length (planes_of (tree_of solid.now)) ≤ 2 ^ 30 }
     ensures planes { IfOk result (ArePlanesOf (body_of (tree_of solid.now))) }
