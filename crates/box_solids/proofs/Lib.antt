@@ -9,3 +9,4 @@ pub mod Numbers
 pub mod Additions
 pub mod BookLaws
 pub mod SmallPlanes
+pub mod Searches

@@ -70,9 +70,10 @@ fn told_box(book: &PlaneBook, bounds: &Bounds, in_front: &[bool]) -> bool
         return false;
     }
     let Bounds { low, high } = *bounds;
-    is_between(book, &x_plane(low.x), &x_plane(high.x), in_front)
-        && is_between(book, &y_plane(low.y), &y_plane(high.y), in_front)
-        && is_between(book, &z_plane(low.z), &z_plane(high.z), in_front)
+    let in_x = is_between(book, &x_plane(low.x), &x_plane(high.x), in_front);
+    let in_y = is_between(book, &y_plane(low.y), &y_plane(high.y), in_front);
+    let in_z = is_between(book, &z_plane(low.z), &z_plane(high.z), in_front);
+    in_x && in_y && in_z
 }
 
 /// Whether the operator's solid has a point, by whether the two that it combines have it.
