@@ -1,5 +1,6 @@
 -- What adding planes to a book makes of it.
-use Rattle.std.proofs.Common.{◌≡◌, ◌≢◌, ℕ, zero, suc, ◌+◌, ◌<◌, ◌≤◌, ◌^◌, List, [], ◌∷◌, ◌++◌, length, slice_get, Option, Some, None, Contains, ◌⊎◌, inl, inr, refl, sym, ap, subst, ◌∙◌, arith, length-append, Result, Ok, Err, OnOk}
+use Rattle.std.proofs.Common.{◌≡◌, ◌≢◌, ℕ, zero, suc, ◌+◌, ◌<◌, ◌≤◌, ◌^◌, List, [], ◌∷◌, ◌++◌, length, slice_get, Option, Some, None, Contains, ◌⊎◌, inl, inr, refl, sym, ap, subst, ◌∙◌, arith, length-append, take, get_or}
+use Rattle.std.proofs.lemmas.List.{take_more}
 use Rattle.std.proofs.lemmas.Option.{slice_get_within, slice_get_past}
 use Rattle.std.proofs.lemmas.List.Elements.{Contains-append_left, Contains-append_right, Contains-append_cases}
 use Rattle.spec_space.specs.declared.Plane.{Plane}
@@ -113,3 +114,7 @@ added_one old new p k number is at known absent kept most = record {
 
     same : (n : ℕ) (q : BookPlane) → length old ≤ n → slice_get new n ≡ Some q → q ≡ p
     same n q past found = some_is q p (last_of old p q n past (ap (λ ps. slice_get ps n) (sym (absent (new_one n q past found))) ∙ found))
+
+-- one plane more of a list was added
+pub added_more : (old book new : List BookPlane) (ks : List Plane) (i : ℕ) (d : Plane) → i < length ks → HasAdded old (take i ks) book → HasAdded book (get_or ks i d ∷ []) new → HasAdded old (take (i + 1) ks) new
+added_more old book new ks i d h p q = subst (λ ls. HasAdded old ls new) (sym (take_more ks i d h)) (added_both old book new (take i ks) (get_or ks i d ∷ []) p q)
