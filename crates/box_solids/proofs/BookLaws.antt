@@ -10,7 +10,6 @@ use Rattle.spec_space.specs.declared.Point.{Point}
 use Rattle.spec_space.specs.declared.Vector.{Vector}
 use Rattle.spec_space.specs.Points.{value}
 use Rattle.spec_solid.specs.Planes.{upright_plane, IsTimes, IsPlaneOf}
-use Rattle.spec_solid.specs.Solids.{Operator}
 use Rattle.integer_laws.proofs.Ring.{var, con, neg, ◌⊕◌, ◌⊗◌, ◌⊖◌, ring}
 use Rattle.integer_laws.proofs.Products.{cancel_zero}
 use Rattle.plane_core.specs.Books.{x_plane, y_plane, z_plane, cube_walls}
@@ -22,7 +21,7 @@ use Rattle.box_mesh.specs.Ranges.{AreSteps}
 use Rattle.box_mesh.specs.declared.bounds.Bounds.{Bounds}
 use Rattle.box_mesh.proofs.Sides.{value_x, value_y, value_z}
 use Rattle.box_solids.specs.Trees.{Tree, Leaf, Joined, body_of, has_walls, six_walls, diagonal, walls_of, planes_of}
-use Rattle.box_solids.specs.Books.{ArePlanesOf, HasAdded, HasWalls}
+use Rattle.box_solids.specs.Books.{ArePlanesOf, HasAdded, HasNumber, HasWalls}
 use Rattle.box_solids.proofs.Listed.{planes_of_body, book_planes_of_body}
 use Rattle.box_solids.proofs.WallPlanes.{wall_is_plane}
 use Rattle.box_solids.proofs.Reduced.{one_reduction}
@@ -147,12 +146,12 @@ book_of_element s old new walls six added = record {
     found h is (k, m, there, some, times) = numbered h is k m there some times (added.given k there)
 
 -- such a book has the walls of the boxes
+numbered_walls : (s : Tree) (book : List BookPlane) → ((k : Plane) → Contains (walls_of s) k → HasNumber book k) → HasWalls book s
+numbered_walls (Leaf b) book h = h
+numbered_walls (Joined operator first second) book h = (
+    numbered_walls first book (λ k there. h k (Contains-append_left (walls_of first) (walls_of second) k there)),
+    numbered_walls second book (λ k there. h k (Contains-append_right (walls_of first) (walls_of second) k there)),
+  )
+
 pub planes_have_walls : (s : Tree) (book : List BookPlane) → ArePlanesOf (body_of s) book → HasWalls book s
-planes_have_walls s book planes k there = planes.all k (wall_is_plane s k there)
-
--- a book with the walls of two trees has those of each
-pub walls_of_first : (book : List BookPlane) (operator : Operator) (first second : Tree) → HasWalls book (Joined operator first second) → HasWalls book first
-walls_of_first book operator first second h k there = h k (Contains-append_left (walls_of first) (walls_of second) k there)
-
-pub walls_of_second : (book : List BookPlane) (operator : Operator) (first second : Tree) → HasWalls book (Joined operator first second) → HasWalls book second
-walls_of_second book operator first second h k there = h k (Contains-append_right (walls_of first) (walls_of second) k there)
+planes_have_walls s book planes = numbered_walls s book (λ k there. planes.all k (wall_is_plane s k there))

@@ -6,7 +6,7 @@ use Rattle.spec_solid.specs.Planes.{IsPlaneOf}
 use Rattle.plane_core.specs.declared.numbers.Plane.{Plane as BookPlane}
 use Rattle.plane_core.specs.Views.{plane_of}
 use Rattle.plane_core.specs.Planes.{IsReductionOf}
-use Rattle.box_solids.specs.Trees.{Tree, walls_of}
+use Rattle.box_solids.specs.Trees.{Tree, Leaf, Joined, walls_of}
 
 -- the planes of the book from number 6 on are those of the element
 pub record ArePlanesOf (body : Body) (book : List BookPlane) : Type 0 where
@@ -39,7 +39,8 @@ HasNumber book k = (n : ℕ) × (p : BookPlane) × (6 ≤ n) × (slice_get book 
 
 -- so have all walls of the boxes
 abbrev pub HasWalls : List BookPlane → Tree → Type 0
-HasWalls book s = (k : Plane) → Contains (walls_of s) k → HasNumber book k
+HasWalls book (Leaf b) = (k : Plane) → Contains (walls_of (Leaf b)) k → HasNumber book k
+HasWalls book (Joined operator first second) = HasWalls book first × HasWalls book second
 
 -- the flag at place n - 6 is for the plane of number n
 abbrev pub AreFlagsOf : List BookPlane → (Plane → Bool) → List Bool → Type 0

@@ -95,7 +95,6 @@ fn truth(operator: Operator, first: bool, second: bool) -> bool
 
 /// The meaning of the solid at a point, told by the sides of the planes on which the point lies: `in_front[k - 6]` says that
 /// it lies in front of the plane of number k in the book, which has all walls of the boxes.
-#[tactic(auto, using(crate::proofs::BookLaws::walls_of_first, crate::proofs::BookLaws::walls_of_second))]
 pub fn told(book: &PlaneBook, solid: &BoxSolid, in_front: &[bool]) -> bool
     requires known { HasWalls book.now (tree_of solid.now) }
     requires size { length book.now ≤ 2 ^ 32 }
