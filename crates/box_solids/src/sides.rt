@@ -1,11 +1,13 @@
 ghost use Rattle.std.specs.Prelude.{◌≡◌, ◌^◌, ◌≤◌, ◌<◌, ◌+◌, ◌&&◌, ℕ, length, slice_get, Some, Bool, not};
 ghost use Rattle.spec_space.specs.declared.Plane.{Plane};
-ghost use Rattle.spec_solid.specs.Solids.{truth};
+ghost use Rattle.spec_space.specs.declared.Point.{Point};
+ghost use Rattle.spec_space.specs.Points.{IsPoint};
+ghost use Rattle.spec_solid.specs.Solids.{truth, is_meant};
 ghost use Rattle.plane_core.specs.Views.{plane_of};
 ghost use Rattle.plane_core.specs.declared.numbers.Plane.{Plane as BookPlane};
-ghost use Rattle.box_solids.specs.Trees.{Leaf, is_plane, told_by};
+ghost use Rattle.box_solids.specs.Trees.{Leaf, body_of, is_plane, told_by};
 ghost use Rattle.box_solids.specs.Views.{operator_of, tree_of};
-ghost use Rattle.box_solids.specs.Books.{HasNumber, HasWalls, AreFlagsOf};
+ghost use Rattle.box_solids.specs.Books.{HasNumber, HasWalls, AreFlagsOf, AreSidesOf};
 
 use crate::solids::{BoxSolid, Operator};
 use crate::walls::{has_walls, x_plane, y_plane, z_plane};
@@ -93,9 +95,8 @@ fn truth(operator: Operator, first: bool, second: bool) -> bool
     }
 }
 
-/// The meaning of the solid at a point, told by the sides of the planes on which the point lies: `in_front[k - 6]` says that
-/// it lies in front of the plane of number k in the book, which has all walls of the boxes.
-pub fn told(book: &PlaneBook, solid: &BoxSolid, in_front: &[bool]) -> bool
+/// Whether the point lies in the solid.
+fn told_tree(book: &PlaneBook, solid: &BoxSolid, in_front: &[bool]) -> bool
     requires known { HasWalls book.now (tree_of solid.now) }
     requires size { length book.now ≤ 2 ^ 32 }
     requires flags { length in_front.now + 6 ≡ length book.now }
@@ -108,9 +109,22 @@ pub fn told(book: &PlaneBook, solid: &BoxSolid, in_front: &[bool]) -> bool
             first,
             second,
         } => {
-            let in_first = told(book, first.get(), in_front);
-            let in_second = told(book, second.get(), in_front);
+            let in_first = told_tree(book, first.get(), in_front);
+            let in_second = told_tree(book, second.get(), in_front);
             truth(*operator, in_first, in_second)
         }
     }
+}
+
+/// The meaning of the solid at a point, told by the sides of the planes on which the point lies: `in_front[k - 6]` says that
+/// it lies in front of the plane of number k in the book, which has all walls of the boxes. At a point on none of the planes
+/// this is the meaning of the element.
+pub fn told(book: &PlaneBook, solid: &BoxSolid, in_front: &[bool]) -> bool
+    requires known { HasWalls book.now (tree_of solid.now) }
+    requires size { length book.now ≤ 2 ^ 32 }
+    requires flags { length in_front.now + 6 ≡ length book.now }
+    ensures sides { (sides : Plane → Bool) → AreFlagsOf book.now sides in_front.now → result ≡ told_by sides (tree_of solid.now) }
+    ensures meaning { (q : Point) → IsPoint q → AreSidesOf book.now q in_front.now → result ≡ is_meant (body_of (tree_of solid.now)) q }
+{
+    told_tree(book, solid, in_front)
 }
