@@ -151,9 +151,9 @@ book_of_element s old new walls six added = record {
 numbered_walls : (s : Tree) (book : List BookPlane) → ((k : Plane) → Contains (walls_of s) k → HasNumber book k) → HasWalls book s
 numbered_walls (Leaf b) book h = h
 numbered_walls (Joined operator first second) book h = (
-    numbered_walls first book (λ k there. h k (Contains-append_left (walls_of first) (walls_of second) k there)),
-    numbered_walls second book (λ k there. h k (Contains-append_right (walls_of first) (walls_of second) k there)),
-  )
+  numbered_walls first book (λ k there. h k (Contains-append_left (walls_of first) (walls_of second) k there)),
+  numbered_walls second book (λ k there. h k (Contains-append_right (walls_of first) (walls_of second) k there)),
+)
 
 pub planes_have_walls : (s : Tree) (book : List BookPlane) → ArePlanesOf (body_of s) book → HasWalls book s
 planes_have_walls s book planes = numbered_walls s book (λ k there. planes.all k (wall_is_plane s k there))

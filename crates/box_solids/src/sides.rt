@@ -19,10 +19,7 @@ use spec_space::Plane;
 fn has_numbers(plane: &plane_core::Plane, numbers: &Plane) -> bool
     ensures { result ≡ is_plane (plane_of plane.now) numbers.now }
 {
-    plane.a == numbers.a
-        && plane.b == numbers.b
-        && plane.c == numbers.c
-        && plane.d == numbers.d
+    plane.a == numbers.a && plane.b == numbers.b && plane.c == numbers.c && plane.d == numbers.d
 }
 
 /// The number of a plane that the book has after the walls of the cube.

@@ -50,10 +50,7 @@ fn example(alloc: Global, operator: Operator) -> Result<Option<BoxSolid>, AllocE
 }
 
 /// The four numbers of each plane of the solid.
-fn numbers(
-    alloc: Global,
-    solid: &BoxSolid,
-) -> Result<Vec<(i128, i128, i128, i128)>, AllocError> {
+fn numbers(alloc: Global, solid: &BoxSolid) -> Result<Vec<(i128, i128, i128, i128)>, AllocError> {
     let book = plane_book(alloc, solid)?;
     let mut numbers = Vec::new(alloc);
     for k in 6..book.count() {
@@ -65,11 +62,7 @@ fn numbers(
 
 /// The meaning by the sides, or `None` where their number is not that of the planes.
 #[tactic(auto, using(crate::proofs::BookLaws::planes_have_walls))]
-fn meaning(
-    alloc: Global,
-    solid: &BoxSolid,
-    in_front: &[bool],
-) -> Result<Option<bool>, AllocError> {
+fn meaning(alloc: Global, solid: &BoxSolid, in_front: &[bool]) -> Result<Option<bool>, AllocError> {
     let book = plane_book(alloc, solid)?;
     if in_front.len() >= book.count() || in_front.len() + 6 != book.count() {
         return Ok(None);
