@@ -1,4 +1,4 @@
-use Rattle.std.proofs.Common.{ℕ, ◌≡◌, ◌++◌, [], ◌∷◌, List, ◌∙◌, ap, sym, subst, None}
+use Rattle.std.proofs.Common.{ℕ, ◌≡◌, ◌++◌, [], ◌∷◌, List, ◌∙◌, ap, sym, subst}
 use Rattle.std.specs.Prelude.{nat_eq}
 use Rattle.spec_step.specs.Rules.{look}
 use Rattle.spec_step.specs.declared.line.Known.{Known}
