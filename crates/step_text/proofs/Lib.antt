@@ -30,3 +30,4 @@ pub mod Reading
 pub mod Kept
 pub mod Soundness
 pub mod OneFile
+pub mod ByNumber

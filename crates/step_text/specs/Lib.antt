@@ -5,3 +5,4 @@ pub mod Reading
 pub mod Schemas
 pub mod Printing
 pub mod Wide
+pub mod Numbered

@@ -5,6 +5,7 @@
 mod bytes;
 mod file;
 mod gap;
+mod known;
 mod lines;
 mod longest;
 mod machine;
