@@ -34,6 +34,18 @@ is_number Enumeration = false
 is_number Binary = false
 is_number Mark = false
 
+abbrev pub is_name : TokenKind → Bool
+is_name StartWord = false
+is_name EndWord = false
+is_name Keyword = false
+is_name Number = true
+is_name Int = false
+is_name Real = false
+is_name Text = false
+is_name Enumeration = false
+is_name Binary = false
+is_name Mark = false
+
 -- the bytes of a token
 abbrev pub text_of : List ℕ → Token → List ℕ
 text_of s t = take (t.end - t.from) (drop t.from s)
@@ -58,6 +70,11 @@ is_number_step (Got t) = is_number t.kind
 is_number_step (Bad at) = false
 is_number_step End = false
 
+abbrev pub is_name_step : TokenStep → Bool
+is_name_step (Got t) = is_name t.kind
+is_name_step (Bad at) = false
+is_name_step End = false
+
 -- where a step stands: the first byte of the token, the byte at which none begins, or the end
 abbrev pub place_of : List ℕ → TokenStep → ℕ
 place_of s (Got t) = t.from
@@ -80,17 +97,21 @@ Leaves part s at place =
     (n : ℕ) × (j : ℕ) × (to : ℕ) × (f : Token) × (step : TokenStep) × Matches n part 0 j s at to
     × IsNext part j (Got f) × IsNext s to step × (is_as_in part f s step ≡ false) × (place ≡ place_of s step)
 
--- a form is made of the tokens of some texts, and of numbers
+-- a form is made of the tokens of some texts, of numbers, and of names of lines as `#10`
 pub data Piece : Type 0 where
   Fixed : List ℕ → Piece
   AnyNumber : Piece
+  AnyName : Piece
 
--- the tokens of the text from a place to its end have the form, and these are its numbers
+-- the tokens of the text from a place to its end have the form, and these are its numbers and names
 abbrev pub HasForm : List Piece → List ℕ → ℕ → List Span → Type 0
 HasForm [] s at numbers = (numbers ≡ []) × IsNext s at End
 HasForm (Fixed part ∷ form) s at numbers = (to : ℕ) × Follows part s at to × HasForm form s to numbers
 HasForm (AnyNumber ∷ form) s at numbers =
     (t : Token) × (rest : List Span) × IsNext s at (Got t) × (is_number t.kind ≡ true)
+    × (numbers ≡ record { from = t.from; end = t.end } ∷ rest) × HasForm form s t.end rest
+HasForm (AnyName ∷ form) s at numbers =
+    (t : Token) × (rest : List Span) × IsNext s at (Got t) × (is_name t.kind ≡ true)
     × (numbers ≡ record { from = t.from; end = t.end } ∷ rest) × HasForm form s t.end rest
 
 -- here the text departs from the form: at the first byte where no token begins, at the first token that is not the
@@ -101,6 +122,9 @@ Departs (Fixed part ∷ form) s at place = Leaves part s at place ⊎ ((to : ℕ
 Departs (AnyNumber ∷ form) s at place =
     ((step : TokenStep) × IsNext s at step × (is_number_step step ≡ false) × (place ≡ place_of s step))
     ⊎ ((t : Token) × IsNext s at (Got t) × (is_number t.kind ≡ true) × Departs form s t.end place)
+Departs (AnyName ∷ form) s at place =
+    ((step : TokenStep) × IsNext s at step × (is_name_step step ≡ false) × (place ≡ place_of s step))
+    ⊎ ((t : Token) × IsNext s at (Got t) × (is_name t.kind ≡ true) × Departs form s t.end place)
 
 -- the form of the file of one wall, a box of three extents: one product of one extrusion of one rectangle
 unfoldable pub before_width : List ℕ

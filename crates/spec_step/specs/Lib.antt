@@ -2,3 +2,6 @@ pub mod Spelling
 pub mod Longest
 pub mod Gaps
 pub mod Form
+pub mod Slots
+pub mod Lines
+pub mod Rules

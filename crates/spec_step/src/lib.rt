@@ -1,6 +1,8 @@
-//! Tokens of STEP text (ISO 10303-21), and the form of file that is built.
+//! Tokens of STEP text (ISO 10303-21), and the forms of files that are built.
 #![tactic(auto)]
 
+mod line;
 mod token;
 
+pub use line::{Begun, Known, LineKind, PlainLine, Slot};
 pub use token::{Span, Token, TokenKind, TokenStep};

@@ -39,7 +39,7 @@ const BEHIND_HEIGHT: &[u8] =
     b");#11=IFCSHAPEREPRESENTATION(#5,'Body','SweptSolid',(#10));#12=IFCPRODUCTDEFINITIONSHAPE($,$,(#11));#13=IFCWALL('2',$,'w',$,$,#7,#12,$,$);ENDSEC;END-ISO-10303-21;";
 
 /// The place of what stands there.
-fn place(source: &[u8], step: &TokenStep) -> usize
+pub fn place(source: &[u8], step: &TokenStep) -> usize
     ensures { result ≡ place_of source.now step.now }
 {
     match step {
@@ -68,7 +68,7 @@ fn same(part: &[u8], wanted: &Token, source: &[u8], token: &Token) -> bool
 
 /// Follows the tokens of a part of the form from a place, and answers where the last of them ends.
 /// The part is nothing but tokens, so the loop stops at its end and not before.
-fn follow(part: &[u8], source: &[u8], from: usize) -> Result<usize, PlainFault>
+pub fn follow(part: &[u8], source: &[u8], from: usize) -> Result<usize, PlainFault>
     requires tokens { IsTrue (is_tokens part.now) }
     requires from { from ≤ length source.now }
     ensures form { MatchResult result (λ to. Follows part.now source.now from to) (λ fault. Leaves part.now source.now from fault.at) }
@@ -140,7 +140,7 @@ fn number_behind(part: &[u8], source: &[u8], from: usize) -> Result<Span, PlainF
 }
 
 /// The tokens of a part of the form, and then nothing but blanks and comments.
-fn end_behind(part: &[u8], source: &[u8], from: usize) -> Result<(), PlainFault>
+pub fn end_behind(part: &[u8], source: &[u8], from: usize) -> Result<(), PlainFault>
     requires tokens { IsTrue (is_tokens part.now) }
     requires from { from ≤ length source.now }
     ensures form { MatchResult result (λ nothing. HasForm (Fixed part.now ∷ []) source.now from [])

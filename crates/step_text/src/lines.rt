@@ -1,0 +1,109 @@
+ghost use Rattle.std.specs.Prelude.{◌≡◌, ℕ, ◌+◌, ◌<◌, ◌≤◌, ◌++◌, [], ◌∷◌, true, false, Some, None, length, MatchResult, IfOk};
+ghost use Rattle.std.specs.List.{All};
+ghost use Rattle.spec_step.specs.Slots.{Fills, Misses};
+ghost use Rattle.spec_step.specs.Lines.{Stated, IsHead, head_slots, begun, kind_of, span_of, Says};
+ghost use Rattle.spec_step.specs.declared.token.TokenKind.TheVariants.{Number};
+ghost use Rattle.step_text.specs.Wide.{IsTokenIn, AreFree};
+
+use crate::plain::PlainFault;
+use crate::rules::number_in;
+use crate::slots::{DIFFERENCE, expect, text};
+use spec_step::{Begun, LineKind, PlainLine, Slot, Span, Token};
+
+/// The number and the keyword with which a line begins.
+#[derive(Clone, Copy, Debug)]
+pub struct Head {
+    pub name: Token,
+    pub word: Token,
+}
+
+/// How a line begins.
+pub fn read_head(source: &[u8], from: usize) -> Result<Head, PlainFault>
+    requires { from ≤ length source.now }
+    ensures form { MatchResult result (λ head. IsHead source.now from head.name head.word)
+        (λ fault. Misses head_slots source.now from fault.at) }
+    ensures name { IfOk result (λ head. IsTokenIn source.now head.name × (head.name.kind ≡ Number)) }
+    ensures word { IfOk result (λ head. IsTokenIn source.now head.word × (from < head.word.end)) }
+{
+    let name = expect(Slot::Name, source, from)?;
+    let mark = expect(Slot::Mark(b'='), source, name.end)?;
+    let word = expect(Slot::Word, source, mark.end)?;
+    Ok(Head { name, word })
+}
+
+const SHAPE: &[u8] = b"#11";
+
+/// What a line is, by its number and its keyword.
+pub fn begun(source: &[u8], name: &Token, word: &Token) -> Begun
+    requires name { IsTokenIn source.now name.now }
+    requires word { IsTokenIn source.now word.now }
+    ensures { result ≡ begun source.now name.now word.now }
+{
+    let word = text(source, word);
+    if text(source, name) == SHAPE && word.eq_ignore_ascii_case(b"IFCSHAPEREPRESENTATION") {
+        Begun::Shape
+    } else if word.eq_ignore_ascii_case(b"IFCCARTESIANPOINT") {
+        Begun::Solid(LineKind::Point)
+    } else if word.eq_ignore_ascii_case(b"IFCAXIS2PLACEMENT3D") {
+        Begun::Solid(LineKind::Axes)
+    } else if word.eq_ignore_ascii_case(b"IFCBLOCK") {
+        Begun::Solid(LineKind::Block)
+    } else if word.eq_ignore_ascii_case(b"IFCRECTANGLEPROFILEDEF") {
+        Begun::Solid(LineKind::Rect)
+    } else if word.eq_ignore_ascii_case(b"IFCEXTRUDEDAREASOLID") {
+        Begun::Solid(LineKind::Prism)
+    } else if word.eq_ignore_ascii_case(b"IFCBOOLEANRESULT") {
+        Begun::Solid(LineKind::Combine)
+    } else {
+        Begun::Nothing
+    }
+}
+
+fn span(token: &Token) -> Span
+    ensures { result ≡ span_of token.now }
+{
+    Span {
+        from: token.from,
+        end: token.end,
+    }
+}
+
+/// What a line of a kind says, by its number's token and its free tokens.
+pub fn line_of(source: &[u8], kind: LineKind, name: &Token, free: &[Token]) -> PlainLine
+    requires name { IsTokenIn source.now name.now × (name.now.kind ≡ Number) }
+    requires free { AreFree source.now kind free.now }
+    ensures says { Says source.now result name.now free.now }
+    ensures kind { kind_of result ≡ kind }
+{
+    let number = number_in(source, name);
+    match kind {
+        LineKind::Point => PlainLine::Point {
+            number,
+            coords: [span(&free[0]), span(&free[1]), span(&free[2])],
+        },
+        LineKind::Axes => PlainLine::Axes {
+            number,
+            point: number_in(source, &free[0]),
+        },
+        LineKind::Block => PlainLine::Block {
+            number,
+            axes: number_in(source, &free[0]),
+            sizes: [span(&free[1]), span(&free[2]), span(&free[3])],
+        },
+        LineKind::Rect => PlainLine::Rect {
+            number,
+            sizes: [span(&free[0]), span(&free[1])],
+        },
+        LineKind::Prism => PlainLine::Prism {
+            number,
+            profile: number_in(source, &free[0]),
+            depth: span(&free[1]),
+        },
+        LineKind::Combine => PlainLine::Combine {
+            number,
+            difference: text(source, &free[0]) == DIFFERENCE,
+            first: number_in(source, &free[1]),
+            second: number_in(source, &free[2]),
+        },
+    }
+}

@@ -1,0 +1,121 @@
+use crate::lines::{Head, begun, line_of, read_head};
+use crate::plain::{PlainFault, end_behind, follow};
+use crate::rules::{check_line, is_solid, look, number_in};
+use crate::slots::{expect, fill, line_slots};
+use crate::wide_fault::WideFault;
+use spec_step::{Begun, Known, LineKind, PlainLine, Slot, Token};
+use std::alloc::{AllocError, Global};
+
+/// A file of solid lines: what they say, and the number of the line that is the shape's item.
+#[derive(Debug, Drop)]
+pub struct WidePlain {
+    pub lines: Vec<PlainLine>,
+    pub item: u64,
+}
+
+// The fixed texts, whose tokens a file has to have.
+
+const BEFORE_LINES: &[u8] =
+    b"ISO-10303-21;HEADER;FILE_DESCRIPTION((''),'2;1');FILE_NAME('','',(''),(''),'','','');FILE_SCHEMA(('IFC4'));ENDSEC;DATA;#1=IFCSIUNIT(*,.LENGTHUNIT.,.MILLI.,.METRE.);#2=IFCUNITASSIGNMENT((#1));#3=IFCCARTESIANPOINT((0.,0.,0.));#4=IFCAXIS2PLACEMENT3D(#3,$,$);#5=IFCGEOMETRICREPRESENTATIONCONTEXT($,'Model',3,1.E-5,#4,$);#6=IFCPROJECT('1',$,'p',$,$,$,$,(#5),#2);#7=IFCLOCALPLACEMENT($,#4);#8=IFCDIRECTION((0.,0.,1.));";
+
+const BEFORE_ITEM: &[u8] = b"(#5,'Body','SweptSolid',(";
+
+const BEHIND_ITEM: &[u8] =
+    b"));#12=IFCPRODUCTDEFINITIONSHAPE($,$,(#11));#13=IFCWALL('2',$,'w',$,$,#7,#12,$,$);ENDSEC;END-ISO-10303-21;";
+
+/// The lines so far, what later ones have to know of them, and where they first break a rule.
+#[derive(Drop)]
+struct Book {
+    lines: Vec<PlainLine>,
+    known: Vec<Known>,
+    broken: Option<usize>,
+}
+
+impl Book {
+    fn new(alloc: Global) -> Book {
+        Book {
+            lines: Vec::new(alloc),
+            known: Vec::new(alloc),
+            broken: None,
+        }
+    }
+
+    /// Adds a line, and tests the rules on it if none is broken yet.
+    fn add(
+        &mut self,
+        source: &[u8],
+        line: PlainLine,
+        name: &Token,
+        free: &[Token],
+    ) -> Result<(), AllocError> {
+        if self.broken.is_none() {
+            match check_line(source, self.known.as_slice(), &line, name, free) {
+                Ok(found) => self.known.push(found)?,
+                Err(at) => self.broken = Some(at),
+            }
+        }
+        self.lines.push(line)?;
+        Ok(())
+    }
+
+    /// The file with its item, unless a rule is broken.
+    fn finish(self, source: &[u8], item: &Token) -> Result<WidePlain, PlainFault> {
+        if let Some(at) = self.broken {
+            return Err(PlainFault { at });
+        }
+        let number = number_in(source, item);
+        if !is_solid(look(self.known.as_slice(), number)) {
+            return Err(PlainFault { at: item.from });
+        }
+        Ok(WidePlain {
+            lines: self.lines,
+            item: number,
+        })
+    }
+}
+
+/// Reads the rest of a solid line, and answers where it ends.
+fn read_line(
+    alloc: Global,
+    source: &[u8],
+    head: &Head,
+    kind: LineKind,
+    book: &mut Book,
+) -> Result<usize, WideFault> {
+    let (free, end) = fill(alloc, line_slots(kind), source, head.word.end)?;
+    let line = line_of(source, kind, &head.name, free.as_slice());
+    book.add(source, line, &head.name, free.as_slice())?;
+    Ok(end)
+}
+
+/// Reads the solid lines from a place, and answers where the keyword of the shape's line ends.
+fn read_lines(alloc: Global, source: &[u8], from: usize) -> Result<(Book, usize), WideFault> {
+    let mut book = Book::new(alloc);
+    let mut at = from;
+    loop {
+        let head = read_head(source, at)?;
+        match begun(source, &head.name, &head.word) {
+            Begun::Shape => return Ok((book, head.word.end)),
+            Begun::Nothing => {
+                return Err(WideFault::NotBuilt { at: head.word.from });
+            }
+            Begun::Solid(kind) => at = read_line(alloc, source, &head, kind, &mut book)?,
+        }
+    }
+}
+
+/// Reads the line of the shape behind its keyword, and all that follows it.
+fn read_shape(source: &[u8], from: usize) -> Result<Token, PlainFault> {
+    let at = follow(BEFORE_ITEM, source, from)?;
+    let item = expect(Slot::Name, source, at)?;
+    end_behind(BEHIND_ITEM, source, item.end)?;
+    Ok(item)
+}
+
+/// Reads a file.
+pub fn wide_file(alloc: Global, source: &[u8]) -> Result<WidePlain, WideFault> {
+    let from = follow(BEFORE_LINES, source, 0)?;
+    let (book, at) = read_lines(alloc, source, from)?;
+    let item = read_shape(source, at)?;
+    Ok(book.finish(source, &item)?)
+}
