@@ -3,7 +3,7 @@ use Rattle.std.specs.Prelude.{◌≡◌, ℕ, ◌+◌, ◌*◌, ◌^◌, ◌≤�
 use Rattle.std.specs.List.{find, All}
 use Rattle.spec_num.specs.Decimals.{is_negative, size_units}
 use Rattle.spec_step.specs.Form.{is_name, is_number, text_of}
-use Rattle.spec_step.specs.Lines.{Stated, kind_of, number_in, named}
+use Rattle.spec_step.specs.Lines.{Stated, IsFile, kind_of, number_in, named}
 use Rattle.spec_step.specs.declared.token.Token.{Token}
 use Rattle.spec_step.specs.declared.token.Span.{Span}
 use Rattle.spec_step.specs.declared.line.LineKind.{LineKind}
@@ -170,3 +170,16 @@ said lines = map (λ stated. stated.line) lines
 abbrev pub first_break : List ℕ → List Stated → Span → Option ℕ
 first_break s lines item =
     or_then (lines_break s [] lines) (unless (is_of is_solid (look (known_after [] (said lines)) (named s item))) item.from)
+
+-- the text is a file of these solid lines, with the line of this number as its item, and no rule is broken
+pub record IsKept (s : List ℕ) (lines : List PlainLine) (item : ℕ) : Type 0 where
+  pub stated : List Stated
+  pub name : Span
+  pub file : IsFile s stated name
+  pub lines_said : lines ≡ said stated
+  pub item_said : item ≡ named s name
+  pub kept : first_break s stated name ≡ None
+
+-- the text is a file, and this is the first place at which a rule is broken
+abbrev pub BreaksAt : List ℕ → ℕ → Type 0
+BreaksAt s place = (stated : List Stated) × (item : Span) × IsFile s stated item × (first_break s stated item ≡ Some place)

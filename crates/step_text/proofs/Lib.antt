@@ -8,3 +8,6 @@ pub mod Forms
 pub mod Whole
 pub mod Ends
 pub mod Box
+pub mod Filling
+pub mod Faults
+pub mod Names

@@ -1,7 +1,7 @@
 ghost use Rattle.std.specs.Prelude.{◌≡◌, ℕ, ◌+◌, ◌<◌, ◌≤◌, ◌++◌, [], ◌∷◌, true, false, Some, None, length, MatchResult, IfOk};
 ghost use Rattle.std.specs.List.{All};
 ghost use Rattle.spec_step.specs.Slots.{Fills, Misses};
-ghost use Rattle.spec_step.specs.Lines.{Stated, IsHead, head_slots, begun, kind_of, span_of, Says};
+ghost use Rattle.spec_step.specs.Lines.{Stated, IsHead, head_slots, is_word, solid_by_word, begun, kind_of, span_of, Says};
 ghost use Rattle.spec_step.specs.declared.token.TokenKind.TheVariants.{Number};
 ghost use Rattle.step_text.specs.Wide.{IsTokenIn, AreFree};
 
@@ -31,31 +31,49 @@ pub fn read_head(source: &[u8], from: usize) -> Result<Head, PlainFault>
     Ok(Head { name, word })
 }
 
+/// The token is this keyword, in any case.
+fn is_word(source: &[u8], token: &Token, word: &[u8]) -> bool
+    requires { IsTokenIn source.now token.now }
+    ensures { result ≡ is_word source.now token.now word.now }
+{
+    text(source, token).eq_ignore_ascii_case(word)
+}
+
+/// The solid line with a keyword.
+fn solid_by_word(source: &[u8], word: &Token) -> Begun
+    requires { IsTokenIn source.now word.now }
+    ensures { result ≡ solid_by_word source.now word.now }
+{
+    if is_word(source, word, b"IFCCARTESIANPOINT") {
+        Begun::Solid(LineKind::Point)
+    } else if is_word(source, word, b"IFCAXIS2PLACEMENT3D") {
+        Begun::Solid(LineKind::Axes)
+    } else if is_word(source, word, b"IFCBLOCK") {
+        Begun::Solid(LineKind::Block)
+    } else if is_word(source, word, b"IFCRECTANGLEPROFILEDEF") {
+        Begun::Solid(LineKind::Rect)
+    } else if is_word(source, word, b"IFCEXTRUDEDAREASOLID") {
+        Begun::Solid(LineKind::Prism)
+    } else if is_word(source, word, b"IFCBOOLEANRESULT") {
+        Begun::Solid(LineKind::Combine)
+    } else {
+        Begun::Nothing
+    }
+}
+
 const SHAPE: &[u8] = b"#11";
 
 /// What a line is, by its number and its keyword.
+#[tactic(auto, unfolding(spec_step::specs::Lines::begun))]
 pub fn begun(source: &[u8], name: &Token, word: &Token) -> Begun
     requires name { IsTokenIn source.now name.now }
     requires word { IsTokenIn source.now word.now }
     ensures { result ≡ begun source.now name.now word.now }
 {
-    let word = text(source, word);
-    if text(source, name) == SHAPE && word.eq_ignore_ascii_case(b"IFCSHAPEREPRESENTATION") {
+    if text(source, name) == SHAPE && is_word(source, word, b"IFCSHAPEREPRESENTATION") {
         Begun::Shape
-    } else if word.eq_ignore_ascii_case(b"IFCCARTESIANPOINT") {
-        Begun::Solid(LineKind::Point)
-    } else if word.eq_ignore_ascii_case(b"IFCAXIS2PLACEMENT3D") {
-        Begun::Solid(LineKind::Axes)
-    } else if word.eq_ignore_ascii_case(b"IFCBLOCK") {
-        Begun::Solid(LineKind::Block)
-    } else if word.eq_ignore_ascii_case(b"IFCRECTANGLEPROFILEDEF") {
-        Begun::Solid(LineKind::Rect)
-    } else if word.eq_ignore_ascii_case(b"IFCEXTRUDEDAREASOLID") {
-        Begun::Solid(LineKind::Prism)
-    } else if word.eq_ignore_ascii_case(b"IFCBOOLEANRESULT") {
-        Begun::Solid(LineKind::Combine)
     } else {
-        Begun::Nothing
+        solid_by_word(source, word)
     }
 }
 

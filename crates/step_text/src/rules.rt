@@ -1,6 +1,8 @@
 ghost use Rattle.std.specs.Prelude.{◌≡◌, ℕ, ◌+◌, ◌<◌, ◌≤◌, ◌^◌, ◌*◌, true, false, Some, None, length, MatchResult, IfOk};
 ghost use Rattle.std.specs.List.{All};
+ghost use Rattle.spec_num.specs.Decimals.{value};
 ghost use Rattle.spec_step.specs.Form.{text_of, is_name};
+ghost use Rattle.ix_num.specs.Magnitudes.{AreDigits};
 ghost use Rattle.spec_step.specs.Lines.{Stated, kind_of, number_in};
 ghost use Rattle.spec_step.specs.Rules.{look, is_fixed, is_fresh, fits, is_within, is_kept, number_of, is_solid, is_of, is_point, is_axes, is_rect, count_in, depth_in, count_of, depth_of, entry, first_misfit, line_break};
 ghost use Rattle.step_text.specs.Wide.{IsTokenIn};
@@ -16,29 +18,34 @@ const MOST_TRIANGLES: u64 = 4096;
 /// How deep the parts of a solid may stand in it.
 const MOST_DEPTH: u64 = 64;
 
+/// The number that these digits spell.
+fn digits_value(digits: &[u8]) -> u64
+    requires digits { AreDigits digits.now }
+    requires short { length digits.now ≤ 18 }
+    ensures { result ≡ value digits.now }
+{
+    let mut number = 0;
+    for digit in digits {
+        number = number * 10 + (*digit - b'0') as u64;
+    }
+    number
+}
+
 /// The number of a line, as `#` and its digits name it.
 pub fn number_in(source: &[u8], token: &Token) -> u64
     requires token { IsTokenIn source.now token.now }
     requires name { token.now.kind ≡ Number }
     ensures { result ≡ number_in source.now token.now }
 {
-    let mut number = 0;
-    for digit in &text(source, token)[1..] {
-        number = number * 10 + (*digit - b'0') as u64;
-    }
-    number
+    let name = text(source, token);
+    digits_value(&name[1..])
 }
 
 /// The earlier line with a number.
 pub fn look(known: &[Known], number: u64) -> Option<Known>
     ensures { result ≡ look known.now number }
 {
-    for line in known {
-        if line.number == number {
-            return Some(*line);
-        }
-    }
-    None
+    known.iter().copied().find(|line| line.number == number)
 }
 
 fn is_fresh(known: &[Known], number: u64) -> bool
@@ -60,9 +67,29 @@ pub fn is_solid(found: Option<Known>) -> bool
     }
 }
 
-fn is_kind(found: Option<Known>, kind: LineKind) -> bool {
+fn is_point(found: Option<Known>) -> bool
+    ensures { result ≡ is_of is_point found }
+{
     match found {
-        Some(line) => line.kind == kind,
+        Some(line) => matches!(line.kind, LineKind::Point),
+        None => false,
+    }
+}
+
+fn is_axes(found: Option<Known>) -> bool
+    ensures { result ≡ is_of is_axes found }
+{
+    match found {
+        Some(line) => matches!(line.kind, LineKind::Axes),
+        None => false,
+    }
+}
+
+fn is_rect(found: Option<Known>) -> bool
+    ensures { result ≡ is_of is_rect found }
+{
+    match found {
+        Some(line) => matches!(line.kind, LineKind::Rect),
         None => false,
     }
 }
@@ -73,9 +100,9 @@ fn fits(kind: LineKind, known: &[Known], number: u64) -> bool
 {
     match kind {
         LineKind::Point | LineKind::Rect => false,
-        LineKind::Axes => number == 3 || is_kind(look(known, number), LineKind::Point),
-        LineKind::Block => number == 4 || is_kind(look(known, number), LineKind::Axes),
-        LineKind::Prism => is_kind(look(known, number), LineKind::Rect),
+        LineKind::Axes => number == 3 || is_point(look(known, number)),
+        LineKind::Block => number == 4 || is_axes(look(known, number)),
+        LineKind::Prism => is_rect(look(known, number)),
         LineKind::Combine => is_solid(look(known, number)),
     }
 }

@@ -1,9 +1,8 @@
-ghost use Rattle.std.specs.Prelude.{◌≡◌, ℕ, ◌+◌, ◌<◌, ◌≤◌, true, false, length, MatchResult, IfOk};
+ghost use Rattle.std.specs.Prelude.{◌≡◌, ℕ, ◌+◌, ◌<◌, ◌≤◌, true, false, ◌++◌, [], length, MatchResult, IfOk, OnOk};
 ghost use Rattle.std.specs.List.{All};
-ghost use Rattle.spec_num.specs.Decimals.{};
 ghost use Rattle.spec_step.specs.Gaps.{IsNext};
 ghost use Rattle.spec_step.specs.Form.{text_of, place_of, is_name};
-ghost use Rattle.spec_step.specs.Slots.{passes, step_passes, is_free, Fills, Misses};
+ghost use Rattle.spec_step.specs.Slots.{passes, step_passes, is_free, kept, Fills, Misses};
 ghost use Rattle.spec_step.specs.Lines.{line_slots, number_in};
 ghost use Rattle.spec_step.specs.declared.token.TokenStep.{TokenStep};
 ghost use Rattle.spec_step.specs.declared.token.TokenStep.TheVariants.{Got};
@@ -13,7 +12,7 @@ use crate::next::next_token;
 use crate::plain::{PlainFault, place};
 use crate::wide_fault::WideFault;
 use spec_step::{LineKind, Slot, Token, TokenKind, TokenStep};
-use std::alloc::Global;
+use std::alloc::{AllocError, Global};
 
 const AREA: &[u8] = b".AREA.";
 
@@ -150,8 +149,10 @@ fn is_free(slot: Slot) -> bool
 /// The next token, which has to pass the slot.
 pub fn expect(slot: Slot, source: &[u8], from: usize) -> Result<Token, PlainFault>
     requires { from ≤ length source.now }
-    ensures { MatchResult result (λ token. IsNext source.now from (Got token) × (passes slot source.now token ≡ true))
+    ensures form { MatchResult result (λ token. IsNext source.now from (Got token) × (passes slot source.now token ≡ true))
         (λ fault. (step : TokenStep) × IsNext source.now from step × (step_passes slot source.now step ≡ false) × (fault.at ≡ place_of source.now step)) }
+    ensures token { IfOk result (λ token. IsTokenIn source.now token) }
+    ensures within { IfOk result (λ token. (from < token.end) × (token.end ≤ length source.now)) }
 {
     match next_token(source, from) {
         TokenStep::Got(token) if passes(slot, source, &token) => Ok(token),
@@ -159,6 +160,15 @@ pub fn expect(slot: Slot, source: &[u8], from: usize) -> Result<Token, PlainFaul
             at: place(source, &step),
         }),
     }
+}
+
+fn keep(slot: Slot, token: Token, free: &mut Vec<Token>) -> Result<(), AllocError>
+    ensures { OnOk result (free.new.items ≡ free.old.items ++ kept slot token []) }
+{
+    if is_free(slot) {
+        free.push(token)?;
+    }
+    Ok(())
 }
 
 /// The free tokens of a line from a place, and where the line ends.
@@ -179,9 +189,7 @@ pub fn fill(
     for slot in slots {
         let token = expect(*slot, source, at)?;
         at = token.end;
-        if is_free(*slot) {
-            free.push(token)?;
-        }
+        keep(*slot, token, &mut free)?;
     }
     Ok((free, at))
 }

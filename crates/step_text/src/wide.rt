@@ -1,3 +1,13 @@
+ghost use Rattle.std.specs.Prelude.{◌≡◌, ◌≤◌, ◌++◌, [], ◌∷◌, true, Some, None, ℕ, ◌<◌, ◌⊎◌, length, IsTrue, MatchResult, IfOk, OnOk};
+ghost use Rattle.std.specs.List.{All};
+ghost use Rattle.spec_step.specs.Form.{HasForm, Departs};
+ghost use Rattle.spec_step.specs.Slots.{Misses};
+ghost use Rattle.spec_step.specs.Lines.{Stated, IsHead, IsFile, DepartsFile, begun, kind_of, span_of, number_in, line_slots, before_lines, before_item, behind_item, shape_form};
+ghost use Rattle.spec_step.specs.Rules.{entry, line_break, or_then, unless, is_of, is_solid, look, first_break, IsKept, BreaksAt};
+ghost use Rattle.spec_step.specs.declared.token.TokenKind.TheVariants.{Number};
+ghost use Rattle.spec_step.specs.declared.line.Begun.TheVariants.{Solid};
+ghost use Rattle.step_text.specs.Wide.{IsTokenIn, IfNotBuilt, IsRead, AreReadToShape, DepartsBehindLines};
+
 use crate::lines::{Head, begun, line_of, read_head};
 use crate::plain::{PlainFault, end_behind, follow};
 use crate::rules::{check_line, is_solid, look, number_in};
@@ -32,7 +42,11 @@ struct Book {
 }
 
 impl Book {
-    fn new(alloc: Global) -> Book {
+    fn new(alloc: Global) -> Book
+        ensures lines { result.lines.items ≡ [] }
+        ensures known { result.known.items ≡ [] }
+        ensures broken { result.broken ≡ None }
+    {
         Book {
             lines: Vec::new(alloc),
             known: Vec::new(alloc),
@@ -47,7 +61,12 @@ impl Book {
         line: PlainLine,
         name: &Token,
         free: &[Token],
-    ) -> Result<(), AllocError> {
+    ) -> Result<(), AllocError>
+        requires { All (IsTokenIn source.now) free.now }
+        ensures lines { OnOk result (self.new.lines.items ≡ self.old.lines.items ++ line ∷ []) }
+        ensures broken { OnOk result (self.new.broken ≡ or_then self.old.broken (line_break source.now self.old.known.items (record { line = line; name = name.now; free = free.now }))) }
+        ensures known { OnOk result (self.new.broken ≡ None → self.new.known.items ≡ self.old.known.items ++ entry self.old.known.items line ∷ []) }
+    {
         if self.broken.is_none() {
             match check_line(source, self.known.as_slice(), &line, name, free) {
                 Ok(found) => self.known.push(found)?,
@@ -59,7 +78,15 @@ impl Book {
     }
 
     /// The file with its item, unless a rule is broken.
-    fn finish(self, source: &[u8], item: &Token) -> Result<WidePlain, PlainFault> {
+    fn finish(self, source: &[u8], item: &Token) -> Result<WidePlain, PlainFault>
+        requires token { IsTokenIn source.now item.now }
+        requires name { item.now.kind ≡ Number }
+        ensures kept { MatchResult result
+            (λ plain. or_then self.broken (unless (is_of is_solid (look self.known.items (number_in source.now item.now))) item.now.from) ≡ None)
+            (λ fault. or_then self.broken (unless (is_of is_solid (look self.known.items (number_in source.now item.now))) item.now.from) ≡ Some fault.at) }
+        ensures lines { IfOk result (λ plain. plain.lines.items ≡ self.lines.items) }
+        ensures item { IfOk result (λ plain. plain.item ≡ number_in source.now item.now) }
+    {
         if let Some(at) = self.broken {
             return Err(PlainFault { at });
         }
@@ -81,7 +108,17 @@ fn read_line(
     head: &Head,
     kind: LineKind,
     book: &mut Book,
-) -> Result<usize, WideFault> {
+) -> Result<usize, WideFault>
+    requires name { IsTokenIn source.now head.now.name }
+    requires is_name { head.now.name.kind ≡ Number }
+    requires word { head.now.word.end ≤ length source.now }
+    ensures form { MatchResult result
+        (λ end. (from : ℕ) → (at : ℕ) → IsHead source.now at head.now.name head.now.word → begun source.now head.now.name head.now.word ≡ Solid kind
+            → IsRead source.now from at book.old.lines.items book.old.known.items book.old.broken
+            → IsRead source.now from end book.new.lines.items book.new.known.items book.new.broken)
+        (λ fault. IfNotBuilt fault (Misses (line_slots kind) source.now head.now.word.end)) }
+    ensures within { IfOk result (λ end. (head.now.word.end ≤ end) × (end ≤ length source.now)) }
+{
     let (free, end) = fill(alloc, line_slots(kind), source, head.word.end)?;
     let line = line_of(source, kind, &head.name, free.as_slice());
     book.add(source, line, &head.name, free.as_slice())?;
@@ -89,7 +126,12 @@ fn read_line(
 }
 
 /// Reads the solid lines from a place, and answers where the keyword of the shape's line ends.
-fn read_lines(alloc: Global, source: &[u8], from: usize) -> Result<(Book, usize), WideFault> {
+fn read_lines(alloc: Global, source: &[u8], from: usize) -> Result<(Book, usize), WideFault>
+    requires { from ≤ length source.now }
+    ensures form { MatchResult result (λ found. AreReadToShape source.now from found.0.lines.items found.0.known.items found.0.broken found.1)
+        (λ fault. IfNotBuilt fault (DepartsBehindLines source.now from)) }
+    ensures within { IfOk result (λ found. found.1 ≤ length source.now) }
+{
     let mut book = Book::new(alloc);
     let mut at = from;
     loop {
@@ -105,7 +147,13 @@ fn read_lines(alloc: Global, source: &[u8], from: usize) -> Result<(Book, usize)
 }
 
 /// Reads the line of the shape behind its keyword, and all that follows it.
-fn read_shape(source: &[u8], from: usize) -> Result<Token, PlainFault> {
+fn read_shape(source: &[u8], from: usize) -> Result<Token, PlainFault>
+    requires { from ≤ length source.now }
+    ensures form { MatchResult result (λ item. HasForm shape_form source.now from (span_of item ∷ []))
+        (λ fault. Departs shape_form source.now from fault.at) }
+    ensures token { IfOk result (λ item. IsTokenIn source.now item) }
+    ensures name { IfOk result (λ item. item.kind ≡ Number) }
+{
     let at = follow(BEFORE_ITEM, source, from)?;
     let item = expect(Slot::Name, source, at)?;
     end_behind(BEHIND_ITEM, source, item.end)?;
@@ -113,7 +161,10 @@ fn read_shape(source: &[u8], from: usize) -> Result<Token, PlainFault> {
 }
 
 /// Reads a file.
-pub fn wide_file(alloc: Global, source: &[u8]) -> Result<WidePlain, WideFault> {
+pub fn wide_file(alloc: Global, source: &[u8]) -> Result<WidePlain, WideFault>
+    ensures form { MatchResult result (λ plain. IsKept source.now plain.lines.items plain.item)
+        (λ fault. IfNotBuilt fault (λ place. DepartsFile source.now place ⊎ BreaksAt source.now place)) }
+{
     let from = follow(BEFORE_LINES, source, 0)?;
     let (book, at) = read_lines(alloc, source, from)?;
     let item = read_shape(source, at)?;
