@@ -23,6 +23,11 @@ abbrev pub lengths_at : List ℕ → List Span → Vector
 lengths_at s (x ∷ y ∷ z ∷ []) = record { x = length_at s x; y = length_at s y; z = length_at s z }
 lengths_at s _ = origin
 
+-- the lengths of two numbers along x and y
+abbrev pub pair_at : List ℕ → List Span → ℤ × ℤ
+pair_at s (x ∷ y ∷ []) = (length_at s x, length_at s y)
+pair_at s _ = (pos 0, pos 0)
+
 -- the line with a number
 abbrev pub line_at : List PlainLine → ℕ → Option PlainLine
 line_at lines n = find (λ line. number_of line == n) lines
@@ -39,7 +44,7 @@ place_of s lines _ = origin
 
 -- the extents of a rectangle along x and y
 abbrev pub extents_of : List ℕ → Option PlainLine → ℤ × ℤ
-extents_of s (Some (Rect number (x ∷ y ∷ []))) = (length_at s x, length_at s y)
+extents_of s (Some (Rect number sizes)) = pair_at s sizes
 extents_of s _ = (pos 0, pos 0)
 
 abbrev pub prism_on : ℤ × ℤ → ℤ → Solid
@@ -52,14 +57,14 @@ nothing = block origin origin
 abbrev pub operator_of : Bool → Operator
 operator_of difference = if difference then Difference else Union
 
--- the solid of a line, whose parts are solids of other lines: so many of them, one in the other, are opened
-unfoldable pub solid_of : ℕ → List ℕ → List PlainLine → Option PlainLine → Solid
-solid_of zero s lines line = nothing
-solid_of (suc deep) s lines (Some (Block number axes sizes)) = block (place_of s lines (line_at lines axes)) (lengths_at s sizes)
-solid_of (suc deep) s lines (Some (Prism number profile depth)) = prism_on (extents_of s (line_at lines profile)) (length_at s depth)
-solid_of (suc deep) s lines (Some (Combine number difference first second)) =
-    Combined (operator_of difference) (solid_of deep s lines (line_at lines first)) (solid_of deep s lines (line_at lines second))
-solid_of (suc deep) s lines _ = nothing
+-- the solid of a line, with the solids of the lines that it names: so many of them, one in the other, are opened
+unfoldable pub line_solid : ℕ → List ℕ → List PlainLine → Option PlainLine → Solid
+line_solid zero s lines line = nothing
+line_solid (suc deep) s lines (Some (Block number axes sizes)) = block (place_of s lines (line_at lines axes)) (lengths_at s sizes)
+line_solid (suc deep) s lines (Some (Prism number profile depth)) = prism_on (extents_of s (line_at lines profile)) (length_at s depth)
+line_solid (suc deep) s lines (Some (Combine number difference first second)) =
+    Combined (operator_of difference) (line_solid deep s lines (line_at lines first)) (line_solid deep s lines (line_at lines second))
+line_solid (suc deep) s lines _ = nothing
 
 -- the greatest depth of a solid that keeps the rules
 abbrev pub most_depth : ℕ
@@ -67,4 +72,4 @@ most_depth = 64
 
 -- the element of a file's one wall: the solid of the line of this number is its one item, and it has no openings
 abbrev pub wall_body : List ℕ → List PlainLine → ℕ → Body
-wall_body s lines item = record { items = solid_of most_depth s lines (line_at lines item) ∷ []; openings = [] }
+wall_body s lines item = record { items = line_solid most_depth s lines (line_at lines item) ∷ []; openings = [] }

@@ -1,0 +1,8 @@
+//! The solid lines of a file as solids of boxes on the grid.
+#![tactic(auto)]
+
+mod lengths;
+mod places;
+mod solids;
+
+pub use solids::solid_of_lines;
