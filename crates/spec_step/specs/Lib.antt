@@ -5,3 +5,4 @@ pub mod Form
 pub mod Slots
 pub mod Lines
 pub mod Rules
+pub mod Sound

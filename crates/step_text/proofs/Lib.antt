@@ -11,3 +11,6 @@ pub mod Box
 pub mod Filling
 pub mod Faults
 pub mod Names
+pub mod Reading
+pub mod Kept
+pub mod Soundness

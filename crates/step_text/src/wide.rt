@@ -4,6 +4,7 @@ ghost use Rattle.spec_step.specs.Form.{HasForm, Departs};
 ghost use Rattle.spec_step.specs.Slots.{Misses};
 ghost use Rattle.spec_step.specs.Lines.{Stated, IsHead, IsFile, DepartsFile, begun, kind_of, span_of, number_in, line_slots, before_lines, before_item, behind_item, shape_form};
 ghost use Rattle.spec_step.specs.Rules.{entry, line_break, or_then, unless, is_of, is_solid, look, first_break, IsKept, BreaksAt};
+ghost use Rattle.spec_step.specs.Sound.{AreLines};
 ghost use Rattle.spec_step.specs.declared.token.TokenKind.TheVariants.{Number};
 ghost use Rattle.spec_step.specs.declared.line.Begun.TheVariants.{Solid};
 ghost use Rattle.step_text.specs.Wide.{IsTokenIn, IfNotBuilt, IsRead, AreReadToShape, DepartsBehindLines};
@@ -164,6 +165,7 @@ fn read_shape(source: &[u8], from: usize) -> Result<Token, PlainFault>
 pub fn wide_file(alloc: Global, source: &[u8]) -> Result<WidePlain, WideFault>
     ensures form { MatchResult result (λ plain. IsKept source.now plain.lines.items plain.item)
         (λ fault. IfNotBuilt fault (λ place. DepartsFile source.now place ⊎ BreaksAt source.now place)) }
+    ensures lines { IfOk result (λ plain. AreLines source.now plain.lines.items plain.item) }
 {
     let from = follow(BEFORE_LINES, source, 0)?;
     let (book, at) = read_lines(alloc, source, from)?;

@@ -6,12 +6,13 @@ use Rattle.spec_step.specs.declared.line.Slot.{Slot}
 use Rattle.spec_step.specs.declared.line.Slot.TheVariants.{Mark}
 use Rattle.step_text.proofs.Filling.{kept_behind, one_filled, one_passed, one_missed, all_filled, next_slot}
 use Rattle.step_text.proofs.Faults.{handed_on}
+use Rattle.step_text.specs.declared.wide_fault.WideFault.TheVariants.{NotBuilt}
 use Rattle.step_text.proofs.slots.fill.Goals as goal
 
 pub returns-in_err-token-clause-form : goal.returns-in_err-token-clause-form
 returns-in_err-token-clause-form c =
     let h = c.in_err-token.ensures.form in
-    handed_on c.from_residual.result c.in_err-token.field-0.0.at _ _ c.from_residual.ensures.1
+    handed_on c.from_residual.result (NotBuilt c.in_err-token.field-0.0.at) _ _ c.from_residual.ensures.1
     (c.loop-slot.invariant.misses _
     (one_missed c.args.slots.now c.loop-slot.slot-index _ c.args.source.now c.loop-slot.at h.0 _ (next_slot c.args.slots.now c.loop-slot.slot-index c.loop-slot-test.true) h.1 h.2 h.3))
 
