@@ -2,8 +2,9 @@ ghost use Rattle.std.specs.Prelude.{◌≡◌, ◌≤◌, ◌^◌, ◌+◌, ◌*
 ghost use Rattle.spec_num.specs.Decimals.{decimal_units, size_units, is_negative};
 ghost use Rattle.spec_solid.specs.Extrusions.{plus};
 ghost use Rattle.spec_run.specs.Boxes.{nanometres, steps, on_grid, lower};
-ghost use Rattle.spec_run.specs.Walls.{text_at, length_at};
-ghost use Rattle.box_lines.specs.Sizes.{IsLengthAt, IsSmall, AreSizes};
+ghost use Rattle.spec_step.specs.Sound.{bytes_in, IsCoordinate};
+ghost use Rattle.spec_run.specs.Walls.{length_at};
+ghost use Rattle.box_lines.specs.Sizes.{IsSmall, AreSizes};
 
 use box_mesh::Bounds;
 use ix_num::{Decimal, round_div};
@@ -22,10 +23,10 @@ fn nanometres(units: i128) -> i128
 
 /// A number of the file as a length in whole nanometres.
 pub fn length_at(source: &[u8], number: Span) -> i128
-    requires { IsLengthAt source.now (10 ^ 18) number }
+    requires { IsCoordinate source.now 1000000 number }
     ensures value { result ≡ length_at source.now number }
-    ensures small { 2 * 10 ^ 6 * unsigned_abs result ≤ 2 * size_units (text_at source.now number) + 10 ^ 6 }
-    ensures above { is_negative (text_at source.now number) ≡ false → pos 0 ≤ℤ result }
+    ensures small { 2 * 10 ^ 6 * unsigned_abs result ≤ 2 * size_units (bytes_in source.now number) + 10 ^ 6 }
+    ensures above { is_negative (bytes_in source.now number) ≡ false → pos 0 ≤ℤ result }
 {
     match Decimal::read(&source[number.from..number.end]) {
         Ok(units) => nanometres(units),

@@ -1,7 +1,8 @@
 ghost use Rattle.std.specs.Prelude.{◌≡◌, ℕ, List, ◌*◌, ◌^◌, ◌≤ℤ◌, pos, All, IfSome};
 ghost use Rattle.spec_step.specs.Rules.{number_of};
 ghost use Rattle.spec_run.specs.Walls.{line_at, lengths_at, pair_at, point_of, place_of, extents_of};
-ghost use Rattle.box_lines.specs.Sizes.{IsLengthAt, IsSizeAt, IsBounded, IsSmall, AreSizes};
+ghost use Rattle.spec_step.specs.Sound.{IsCoordinate, IsExtent};
+ghost use Rattle.box_lines.specs.Sizes.{IsBounded, IsSmall, AreSizes};
 
 use crate::lengths::length_at;
 use spec_space::Vector;
@@ -28,15 +29,12 @@ pub fn line_at(lines: &[PlainLine], number: u64) -> Option<PlainLine>
     ensures value { result ≡ line_at lines.now number }
     ensures bounded { (s : List ℕ) → All (IsBounded s) lines.now → IfSome result (IsBounded s) }
 {
-    lines
-        .iter()
-        .copied()
-        .find(|line| number_of(line) == number)
+    lines.iter().copied().find(|line| number_of(line) == number)
 }
 
 /// The lengths of three numbers along x, y and z, in nanometres.
 fn lengths_at(source: &[u8], numbers: &[Span; 3]) -> Vector
-    requires { All (IsLengthAt source.now (5 * 10 ^ 17)) numbers.now }
+    requires { All (IsCoordinate source.now 500000) numbers.now }
     ensures value { result ≡ lengths_at source.now numbers.now }
     ensures small { IsSmall (5 * 10 ^ 11) result }
 {
@@ -50,7 +48,7 @@ fn lengths_at(source: &[u8], numbers: &[Span; 3]) -> Vector
 
 /// The extents of a block along x, y and z, in nanometres.
 pub fn sizes_at(source: &[u8], numbers: &[Span; 3]) -> Vector
-    requires { All (IsSizeAt source.now (5 * 10 ^ 17)) numbers.now }
+    requires { All (IsExtent source.now 500000) numbers.now }
     ensures value { result ≡ lengths_at source.now numbers.now }
     ensures small { IsSmall (5 * 10 ^ 11) result }
     ensures above { AreSizes result }
@@ -65,7 +63,7 @@ pub fn sizes_at(source: &[u8], numbers: &[Span; 3]) -> Vector
 
 /// The extents of a rectangle along x and y, in nanometres.
 fn pair_at(source: &[u8], numbers: &[Span; 2]) -> (i128, i128)
-    requires { All (IsSizeAt source.now (10 ^ 18)) numbers.now }
+    requires { All (IsExtent source.now 1000000) numbers.now }
     ensures value { result ≡ pair_at source.now numbers.now }
     ensures x { (pos 0 ≤ℤ result.0) × (result.0 ≤ℤ pos (10 ^ 12)) }
     ensures y { (pos 0 ≤ℤ result.1) × (result.1 ≤ℤ pos (10 ^ 12)) }

@@ -1,12 +1,12 @@
 ghost use Rattle.std.specs.Prelude.{◌≡◌, ◌*◌, ◌^◌, ◌≤ℤ◌, pos, All, Some, IfOk};
-ghost use Rattle.spec_step.specs.Rules.{IsKept};
 ghost use Rattle.spec_solid.specs.Solids.{Combined};
 ghost use Rattle.spec_run.specs.Boxes.{block, prism};
-ghost use Rattle.spec_run.specs.Walls.{text_at, length_at, lengths_at, line_at, place_of, extents_of, prism_on, nothing, operator_of, line_solid, wall_body};
+ghost use Rattle.spec_run.specs.Walls.{length_at, lengths_at, line_at, place_of, extents_of, prism_on, nothing, operator_of, solid_at, wall_body};
 ghost use Rattle.box_solids.specs.Trees.{Leaf, solid_of, body_of};
 ghost use Rattle.box_solids.specs.Views.{tree_of};
 ghost use Rattle.box_solids.specs.Views.{operator_of as boxes_operator};
-ghost use Rattle.box_lines.specs.Sizes.{IsSizeAt, IsBounded, IsSmall, AreSizes};
+ghost use Rattle.spec_step.specs.Sound.{IsExtent, AreLines};
+ghost use Rattle.box_lines.specs.Sizes.{IsBounded};
 
 use crate::lengths::{bounds, length_at, lower_end};
 use crate::places::{ORIGIN, extents_at, line_at, place_at, sizes_at};
@@ -30,13 +30,10 @@ fn nothing() -> Bounds
 /// The box of a block (IfcBlock).
 fn block(source: &[u8], lines: &[PlainLine], axes: u64, sizes: &[Span; 3]) -> Bounds
     requires lines { All (IsBounded source.now) lines.now }
-    requires sizes { All (IsSizeAt source.now (5 * 10 ^ 17)) sizes.now }
+    requires sizes { All (IsExtent source.now 500000) sizes.now }
     ensures { solid_of (Leaf result) ≡ block (place_of source.now lines.now (line_at lines.now axes)) (lengths_at source.now sizes.now) }
 {
-    bounds(
-        &place_at(source, lines, axes),
-        &sizes_at(source, sizes),
-    )
+    bounds(&place_at(source, lines, axes), &sizes_at(source, sizes))
 }
 
 /// The box of the extrusion of a rectangle that is centred on 0, by its extents in nanometres.
@@ -57,11 +54,18 @@ fn prism_of(x: i128, y: i128, depth: i128) -> Bounds
 /// The box of a prism (IfcExtrudedAreaSolid of an IfcRectangleProfileDef).
 fn prism(source: &[u8], lines: &[PlainLine], profile: u64, depth: Span) -> Bounds
     requires lines { All (IsBounded source.now) lines.now }
-    requires depth { IsSizeAt source.now (10 ^ 18) depth }
+    requires depth { IsExtent source.now 1000000 depth }
     ensures { solid_of (Leaf result) ≡ prism_on (extents_of source.now (line_at lines.now profile)) (length_at source.now depth) }
 {
     let (x, y) = extents_at(source, lines, profile);
     prism_of(x, y, length_at(source, depth))
+}
+
+/// A box as a solid.
+fn one_box(bounds: Bounds) -> BoxSolid
+    ensures { tree_of result ≡ Leaf bounds }
+{
+    BoxSolid::Box(bounds)
 }
 
 fn operator(difference: bool) -> Operator
@@ -84,31 +88,35 @@ fn solid_at(
     depth: u32,
 ) -> Result<BoxSolid, AllocError>
     requires { All (IsBounded source.now) lines.now }
-    ensures { IfOk result (λ solid. solid_of (tree_of solid) ≡ line_solid depth source.now lines.now (line_at lines.now number)) }
+    ensures { IfOk result (λ solid. solid_of (tree_of solid) ≡ solid_at depth source.now lines.now number) }
 {
     if depth == 0 {
-        return Ok(BoxSolid::Box(nothing()));
+        return Ok(one_box(nothing()));
     }
     match line_at(lines, number) {
         Some(PlainLine::Block { axes, sizes, .. }) => {
-            Ok(BoxSolid::Box(block(source, lines, axes, &sizes)))
+            Ok(one_box(block(source, lines, axes, &sizes)))
         }
-        Some(PlainLine::Prism {
-            profile,
-            depth: height,
-            ..
-        }) => Ok(BoxSolid::Box(prism(source, lines, profile, height))),
-        Some(PlainLine::Combine {
-            difference,
-            first,
-            second,
-            ..
-        }) => {
+        Some(
+            PlainLine::Prism {
+                profile,
+                depth: height,
+                ..
+            },
+        ) => Ok(one_box(prism(source, lines, profile, height))),
+        Some(
+            PlainLine::Combine {
+                difference,
+                first,
+                second,
+                ..
+            },
+        ) => {
             let first = solid_at(alloc, source, lines, first, depth - 1)?;
             let second = solid_at(alloc, source, lines, second, depth - 1)?;
             combined(alloc, operator(difference), first, second)
         }
-        _ => Ok(BoxSolid::Box(nothing())),
+        _ => Ok(one_box(nothing())),
     }
 }
 
@@ -138,7 +146,7 @@ pub fn solid_of_lines(
     lines: &[PlainLine],
     item: u64,
 ) -> Result<BoxSolid, AllocError>
-    requires { IsKept source.now lines.now item }
+    requires { AreLines source.now lines.now item }
     ensures { IfOk result (λ solid. body_of (tree_of solid) ≡ wall_body source.now lines.now item) }
 {
     solid_at(alloc, source, lines, item, MOST_DEPTH)

@@ -35,7 +35,7 @@ rectangle a b x y =
 abbrev pub swept : Vector → List Vector → ℤ → Solid
 swept at loop height =
     Shell (flat_map (λ face. face_triangles (map (λ l. map (λ u. on_grid (plus at u)) l) face))
-        (extrusion (loop ∷ []) (record { x = pos 0; y = pos 0; z = height })))
+    (extrusion (loop ∷ []) (record { x = pos 0; y = pos 0; z = height })))
 
 -- the extrusion of a rectangle that is centred on 0 (IfcExtrudedAreaSolid of an IfcRectangleProfileDef)
 abbrev pub prism : ℤ → ℤ → ℤ → Solid

@@ -1,5 +1,5 @@
 -- What the solid lines of a file stand for: places, profiles and solids, by the numbers of the lines.
-use Rattle.std.specs.Prelude.{ℕ, ℤ, pos, zero, suc, ◌-◌, ◌==◌, Bool, List, [], ◌∷◌, take, drop, map, Option, Some, None, if◌then◌else◌}
+use Rattle.std.specs.Prelude.{ℕ, ℤ, pos, zero, suc, ◌==◌, Bool, List, [], ◌∷◌, map, Option, Some, None, if◌then◌else◌}
 use Rattle.std.specs.List.{find}
 use Rattle.spec_num.specs.Decimals.{decimal_units}
 use Rattle.spec_space.specs.declared.Vector.{Vector}
@@ -7,16 +7,13 @@ use Rattle.spec_step.specs.declared.token.Span.{Span}
 use Rattle.spec_step.specs.declared.line.PlainLine.{PlainLine}
 use Rattle.spec_step.specs.declared.line.PlainLine.TheVariants.{Point, Axes, Block, Rect, Prism, Combine}
 use Rattle.spec_step.specs.Rules.{number_of}
+use Rattle.spec_step.specs.Sound.{bytes_in}
 use Rattle.spec_solid.specs.Solids.{Operator, Union, Difference, Solid, Combined, Body}
 use Rattle.spec_run.specs.Boxes.{nanometres, origin, prism, block}
 
--- the bytes of a span
-abbrev pub text_at : List ℕ → Span → List ℕ
-text_at s span = take (span.end - span.from) (drop span.from s)
-
 -- a number of the file as a length in nanometres
 abbrev pub length_at : List ℕ → Span → ℤ
-length_at s span = nanometres (decimal_units (text_at s span))
+length_at s span = nanometres (decimal_units (bytes_in s span))
 
 -- the lengths of three numbers along x, y and z
 abbrev pub lengths_at : List ℕ → List Span → Vector
@@ -57,14 +54,17 @@ nothing = block origin origin
 abbrev pub operator_of : Bool → Operator
 operator_of difference = if difference then Difference else Union
 
--- the solid of a line, with the solids of the lines that it names: so many of them, one in the other, are opened
-unfoldable pub line_solid : ℕ → List ℕ → List PlainLine → Option PlainLine → Solid
-line_solid zero s lines line = nothing
-line_solid (suc deep) s lines (Some (Block number axes sizes)) = block (place_of s lines (line_at lines axes)) (lengths_at s sizes)
-line_solid (suc deep) s lines (Some (Prism number profile depth)) = prism_on (extents_of s (line_at lines profile)) (length_at s depth)
-line_solid (suc deep) s lines (Some (Combine number difference first second)) =
-    Combined (operator_of difference) (line_solid deep s lines (line_at lines first)) (line_solid deep s lines (line_at lines second))
-line_solid (suc deep) s lines _ = nothing
+-- the solid of a line, by the solids of the numbers that it names
+abbrev pub solid_by : (ℕ → Solid) → List ℕ → List PlainLine → Option PlainLine → Solid
+solid_by solids s lines (Some (Block number axes sizes)) = block (place_of s lines (line_at lines axes)) (lengths_at s sizes)
+solid_by solids s lines (Some (Prism number profile depth)) = prism_on (extents_of s (line_at lines profile)) (length_at s depth)
+solid_by solids s lines (Some (Combine number difference first second)) = Combined (operator_of difference) (solids first) (solids second)
+solid_by solids s lines _ = nothing
+
+-- the solid of the line with a number, in which solids stand one in the other at most so deep
+unfoldable pub solid_at : ℕ → List ℕ → List PlainLine → ℕ → Solid
+solid_at zero s lines n = nothing
+solid_at (suc deep) s lines n = solid_by (solid_at deep s lines) s lines (line_at lines n)
 
 -- the greatest depth of a solid that keeps the rules
 abbrev pub most_depth : ℕ
@@ -72,4 +72,4 @@ most_depth = 64
 
 -- the element of a file's one wall: the solid of the line of this number is its one item, and it has no openings
 abbrev pub wall_body : List ℕ → List PlainLine → ℕ → Body
-wall_body s lines item = record { items = line_solid most_depth s lines (line_at lines item) ∷ []; openings = [] }
+wall_body s lines item = record { items = solid_at most_depth s lines item ∷ []; openings = [] }

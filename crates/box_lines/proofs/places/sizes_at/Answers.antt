@@ -13,4 +13,4 @@ returns-clause-above c =
     let first = c.requires 0 none (omega arith) in
     let second = c.requires 1 none (omega arith) in
     let third = c.requires 2 none (omega arith) in
-    simp to_z-of_z (record { x = c.length_at.ensures.above first.above; y = c.length_at-2.ensures.above second.above; z = c.length_at-3.ensures.above third.above })
+    simp to_z-of_z (record { x = c.length_at.ensures.above first.sign; y = c.length_at-2.ensures.above second.sign; z = c.length_at-3.ensures.above third.sign })
