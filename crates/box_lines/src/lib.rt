@@ -4,5 +4,7 @@
 mod lengths;
 mod places;
 mod solids;
+#[cfg(test)]
+mod tests;
 
 pub use solids::solid_of_lines;
