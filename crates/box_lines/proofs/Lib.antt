@@ -2,3 +2,5 @@ pub mod Found
 pub mod Swept
 pub mod Opened
 pub mod Bounded
+pub mod Known
+pub mod Counted

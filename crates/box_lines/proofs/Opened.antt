@@ -8,7 +8,7 @@ unfolding solid_at
 none_opened zero s lines number e = refl
 none_opened (suc n) s lines number e = absurd (omega (arith, e))
 
-one_less : (n : ℕ) → n ≡ suc n - 1
+pub one_less : (n : ℕ) → n ≡ suc n - 1
 one_less n = omega arith
 
 pub opened : (n : ℕ) (s : List ℕ) (lines : List PlainLine) (number : ℕ) → 0 < n
