@@ -4,3 +4,4 @@ pub mod Opened
 pub mod Bounded
 pub mod Known
 pub mod Counted
+pub mod FewPlanes

@@ -1,12 +1,13 @@
-ghost use Rattle.std.specs.Prelude.{◌≡◌, ◌*◌, ◌^◌, ◌≤ℤ◌, pos, All, Some, IfOk};
+ghost use Rattle.std.specs.Prelude.{◌≡◌, ◌≤◌, ◌*◌, ◌++◌, [], length, ◌^◌, ◌≤ℤ◌, pos, All, Some, IfOk};
 ghost use Rattle.spec_solid.specs.Solids.{Combined};
 ghost use Rattle.spec_run.specs.Boxes.{block, prism};
 ghost use Rattle.spec_run.specs.Walls.{length_at, lengths_at, line_at, place_of, extents_of, prism_on, nothing, operator_of, solid_at, wall_body};
-ghost use Rattle.box_solids.specs.Trees.{Leaf, solid_of, body_of};
+ghost use Rattle.box_solids.specs.Trees.{Leaf, solid_of, body_of, planes_of};
 ghost use Rattle.box_solids.specs.Views.{tree_of};
 ghost use Rattle.box_solids.specs.Views.{operator_of as boxes_operator};
 ghost use Rattle.spec_step.specs.Sound.{IsExtent, AreLines};
 ghost use Rattle.box_lines.specs.Sizes.{IsBounded};
+ghost use Rattle.box_lines.specs.Counts.{boxes_at};
 
 use crate::lengths::{bounds, length_at, lower_end};
 use crate::places::{ORIGIN, extents_at, line_at, place_at, sizes_at};
@@ -22,7 +23,8 @@ const MOST_DEPTH: u32 = 64;
 
 /// A box with no point inside it.
 fn nothing() -> Bounds
-    ensures { solid_of (Leaf result) ≡ nothing }
+    ensures body { solid_of (Leaf result) ≡ nothing }
+    ensures flat { planes_of (Leaf result) ≡ [] }
 {
     bounds(&ORIGIN, &ORIGIN)
 }
@@ -88,7 +90,8 @@ fn solid_at(
     depth: u32,
 ) -> Result<BoxSolid, AllocError>
     requires { All (IsBounded source.now) lines.now }
-    ensures { IfOk result (λ solid. solid_of (tree_of solid) ≡ solid_at depth source.now lines.now number) }
+    ensures body { IfOk result (λ solid. solid_of (tree_of solid) ≡ solid_at depth source.now lines.now number) }
+    ensures small { IfOk result (λ solid. length (planes_of (tree_of solid)) ≤ 7 * boxes_at depth lines.now number) }
 {
     if depth == 0 {
         return Ok(one_box(nothing()));
@@ -126,7 +129,8 @@ fn combined(
     first: BoxSolid,
     second: BoxSolid,
 ) -> Result<BoxSolid, AllocError>
-    ensures { IfOk result (λ solid. solid_of (tree_of solid) ≡ Combined (boxes_operator operator) (solid_of (tree_of first)) (solid_of (tree_of second))) }
+    ensures body { IfOk result (λ solid. solid_of (tree_of solid) ≡ Combined (boxes_operator operator) (solid_of (tree_of first)) (solid_of (tree_of second))) }
+    ensures planes { IfOk result (λ solid. planes_of (tree_of solid) ≡ planes_of (tree_of first) ++ planes_of (tree_of second)) }
 {
     Ok(BoxSolid::Combined {
         operator,
@@ -139,7 +143,8 @@ fn combined(
 /// steps of 1000 micrometres.
 ///
 /// A block is an extrusion from the place of its axes, a prism one that is centred on 0; each
-/// corner is rounded to the grid. A solid that is named twice is made twice.
+/// corner is rounded to the grid. A solid that is named twice is made twice. There are at most 170
+/// boxes, and each has at most 7 planes.
 pub fn solid_of_lines(
     alloc: Global,
     source: &[u8],
@@ -147,7 +152,8 @@ pub fn solid_of_lines(
     item: u64,
 ) -> Result<BoxSolid, AllocError>
     requires { AreLines source.now lines.now item }
-    ensures { IfOk result (λ solid. body_of (tree_of solid) ≡ wall_body source.now lines.now item) }
+    ensures body { IfOk result (λ solid. body_of (tree_of solid) ≡ wall_body source.now lines.now item) }
+    ensures small { IfOk result (λ solid. length (planes_of (tree_of solid)) ≤ 7 * 170) }
 {
     solid_at(alloc, source, lines, item, MOST_DEPTH)
 }
