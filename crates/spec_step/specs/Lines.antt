@@ -1,9 +1,8 @@
 -- The form of a file of solids: fixed lines, then any number of solid lines, then the line of the shape with one item,
 -- and fixed lines again.
-use Rattle.std.specs.Prelude.{◌≡◌, ℕ, ◌-◌, Bool, true, false, ◌&&◌, List, [], ◌∷◌, map, length, take, drop, ◌⊎◌, if◌then◌else◌, codes}
+use Rattle.std.specs.Prelude.{◌≡◌, ℕ, ◌-◌, Bool, ◌&&◌, List, [], ◌∷◌, map, take, drop, ◌⊎◌, if◌then◌else◌, codes}
 use Rattle.spec_num.specs.Decimals.{value}
-use Rattle.spec_step.specs.Gaps.{IsNext}
-use Rattle.spec_step.specs.Form.{Piece, Fixed, AnyName, is_keyword, in_small_letters, text_of, place_of, Follows, Leaves, HasForm, Departs}
+use Rattle.spec_step.specs.Form.{Piece, Fixed, AnyName, in_small_letters, text_of, Follows, Leaves, HasForm, Departs}
 use Rattle.spec_step.specs.Slots.{is_text, Fills, Misses}
 use Rattle.std.specs.Str.{bytes_eq}
 use Rattle.spec_step.specs.declared.token.Token.{Token}

@@ -1,6 +1,6 @@
 -- The rules on the solid lines of a file, beyond its form, in the order in which they are tested.
-use Rattle.std.specs.Prelude.{◌≡◌, ℕ, ◌+◌, ◌*◌, ◌^◌, ◌≤◌, max, Bool, true, false, not, ◌&&◌, ◌||◌, ◌==◌, nat_le, nat_lt, List, [], ◌∷◌, ◌++◌, map, length, take, drop, ◌-◌, Option, Some, None, is_none, if◌then◌else◌, IsTrue}
-use Rattle.std.specs.List.{find, All}
+use Rattle.std.specs.Prelude.{◌≡◌, ℕ, ◌+◌, ◌*◌, ◌^◌, max, Bool, true, false, not, ◌&&◌, ◌||◌, ◌==◌, nat_le, nat_lt, List, [], ◌∷◌, ◌++◌, map, Option, Some, None, is_none, if◌then◌else◌}
+use Rattle.std.specs.List.{find}
 use Rattle.spec_num.specs.Decimals.{is_negative, size_units}
 use Rattle.spec_step.specs.Form.{is_name, is_number, text_of}
 use Rattle.spec_step.specs.Lines.{Stated, IsFile, kind_of, number_in, named}

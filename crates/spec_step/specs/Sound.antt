@@ -1,5 +1,5 @@
 -- What holds of the solid lines of a file in which no rule is broken.
-use Rattle.std.specs.Prelude.{◌≡◌, ℕ, ◌-◌, ◌*◌, ◌^◌, ◌<◌, ◌≤◌, Bool, true, false, List, [], ◌∷◌, ◌++◌, length, take, drop, Some, slice_get, ◌⊎◌}
+use Rattle.std.specs.Prelude.{◌≡◌, ℕ, ◌-◌, ◌*◌, ◌^◌, ◌<◌, ◌≤◌, Bool, true, false, List, [], length, take, drop, Some, slice_get, ◌⊎◌}
 use Rattle.std.specs.List.{All}
 use Rattle.spec_num.specs.Decimals.{is_negative, size_units}
 use Rattle.spec_step.specs.Lines.{kind_of}

@@ -5,9 +5,15 @@ use crate::token::Span;
 #[derive(Clone, Copy, Debug, PartialEq, Eq)]
 pub enum PlainLine {
     /// `IFCCARTESIANPOINT`
-    Point { number: u64, coords: [Span; 3] },
+    Point {
+        number: u64,
+        coords: [Span; 3],
+    },
     /// `IFCAXIS2PLACEMENT3D` at a point
-    Axes { number: u64, point: u64 },
+    Axes {
+        number: u64,
+        point: u64,
+    },
     /// `IFCBLOCK` at some axes
     Block {
         number: u64,
@@ -15,7 +21,10 @@ pub enum PlainLine {
         sizes: [Span; 3],
     },
     /// `IFCRECTANGLEPROFILEDEF`
-    Rect { number: u64, sizes: [Span; 2] },
+    Rect {
+        number: u64,
+        sizes: [Span; 2],
+    },
     /// `IFCEXTRUDEDAREASOLID` of a rectangle
     Prism {
         number: u64,

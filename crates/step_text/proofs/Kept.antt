@@ -1,16 +1,16 @@
 -- What the rules on the free tokens of a line say of what the line says.
-use Rattle.std.proofs.Common.{ℕ, ◌≡◌, ◌+◌, ◌*◌, ◌^◌, ◌<◌, ◌≤◌, zero, suc, true, false, Bool, not, ◌&&◌, ◌||◌, ◌==◌, cond, List, [], ◌∷◌, ◌++◌, map, length, take, drop, Option, Some, None, refl, sym, ◌∙◌, ap, subst, inl, inr, ◌⊎◌, arith, append_assoc, append-nil, eq-eqb}
-use Rattle.std.specs.Prelude.{slice_get, is_none, nat_le, nat_lt}
+use Rattle.std.proofs.Common.{ℕ, ◌≡◌, ◌*◌, ◌^◌, ◌<◌, ◌≤◌, zero, suc, true, false, Bool, not, ◌&&◌, ◌||◌, ◌==◌, cond, List, [], ◌∷◌, ◌++◌, map, Option, Some, None, refl, sym, ◌∙◌, ap, subst, inl, inr, ◌⊎◌, arith, append_assoc, append-nil, eq-eqb}
+use Rattle.std.specs.Prelude.{slice_get, is_none, nat_lt}
 use Rattle.std.specs.List.{All}
 use Rattle.std.proofs.lemmas.List.Elements.{All-cons, All-nil, All-map}
 use Rattle.std.proofs.lemmas.Bool.{true≢false, and_parts, eqb-true, leb-true}
 use Rattle.std.proofs.lemmas.Bool.Decides.{nat_tests}
 use Rattle.spec_num.specs.Decimals.{is_negative, size_units}
 use Rattle.spec_step.specs.Form.{is_name, is_number, text_of}
-use Rattle.spec_step.specs.Slots.{passes, is_free, kept, Fills}
-use Rattle.spec_step.specs.Lines.{Stated, Says, kind_of, span_of, number_in, line_slots}
+use Rattle.spec_step.specs.Slots.{passes, is_free, Fills}
+use Rattle.spec_step.specs.Lines.{Says, kind_of, span_of, number_in, line_slots}
 use Rattle.spec_step.specs.Rules.{or_then, unless, look, fits, is_of, is_point, is_axes, is_rect, is_solid, is_at_most, is_positive, is_within, is_kept, first_misfit, number_of, entry, known_after}
-use Rattle.spec_step.specs.Sound.{bytes_in, IsCoordinate, IsExtent, IsEarlier, HasParts}
+use Rattle.spec_step.specs.Sound.{IsCoordinate, IsExtent, IsEarlier, HasParts}
 use Rattle.spec_step.specs.declared.token.Token.{Token}
 use Rattle.spec_step.specs.declared.token.TokenKind.{TokenKind}
 use Rattle.spec_step.specs.declared.token.TokenKind.TheVariants as token
@@ -23,7 +23,6 @@ use Rattle.spec_step.specs.declared.line.PlainLine.TheVariants.{Point, Axes, Blo
 use Rattle.spec_step.specs.declared.line.Known.{Known}
 use Rattle.step_text.specs.Wide.{IsTokenIn}
 use Rattle.step_text.proofs.Filling.{token_in}
-use Rattle.spec_step.specs.Gaps.{IsNext}
 
 -- the free slots of a line, and the tokens in them
 abbrev free_slots : List Slot → List Slot
@@ -205,24 +204,27 @@ parts_kept s earlier (Axes number point) name [] h says e = absurd h
 parts_kept s earlier (Block number axes sizes) name free h (a, rest, is, number_is, axes_is, sizes_is) e =
     let h' : AllPass s (Name ∷ lengths 3) (a ∷ rest) = subst (λ x. AllPass s (Name ∷ lengths 3) x) is h in
     let e' : first_misfit s kind.Block (known_after [] earlier) (a ∷ rest) ≡ None = subst (λ x. first_misfit s kind.Block (known_after [] earlier) x ≡ None) is e in
-    let p = unless_none (is_kept s kind.Block (known_after [] earlier) a) a.from (first_misfit s kind.Block (known_after [] earlier) rest) e' in
-    (subst (λ n. (n ≡ 4) ⊎ IsEarlier is_axes earlier n) (sym axes_is)
-        (fixed_or is_axes earlier 4 (number_in s a) (number_in s a == 4) refl (kept_name s kind.Block (known_after [] earlier) a h'.1 p.0)),
-     subst (λ x. All (IsExtent s 500000) x) (sym sizes_is) (block_sizes s (known_after [] earlier) rest h'.2 p.1))
+    let p = unless_none (is_kept s kind.Block (known_after [] earlier) a) a.from (first_misfit s kind.Block (known_after [] earlier) rest) e' in (
+      subst (λ n. (n ≡ 4) ⊎ IsEarlier is_axes earlier n) (sym axes_is)
+          (fixed_or is_axes earlier 4 (number_in s a) (number_in s a == 4) refl (kept_name s kind.Block (known_after [] earlier) a h'.1 p.0)),
+      subst (λ x. All (IsExtent s 500000) x) (sym sizes_is) (block_sizes s (known_after [] earlier) rest h'.2 p.1),
+    )
 parts_kept s earlier (Rect number sizes) name free h says e =
     subst (λ x. All (IsExtent s 1000000) x) (sym says.1) (rect_sizes s (known_after [] earlier) free h e)
 parts_kept s earlier (Prism number profile depth) name free h (a, d, is, number_is, profile_is, depth_is) e =
     let h' : AllPass s (Name ∷ Length ∷ []) (a ∷ d ∷ []) = subst (λ x. AllPass s (Name ∷ Length ∷ []) x) is h in
     let e' : first_misfit s kind.Prism (known_after [] earlier) (a ∷ d ∷ []) ≡ None = subst (λ x. first_misfit s kind.Prism (known_after [] earlier) x ≡ None) is e in
     let p = unless_none (is_kept s kind.Prism (known_after [] earlier) a) a.from (first_misfit s kind.Prism (known_after [] earlier) (d ∷ [])) e' in
-    let q = unless_none (is_kept s kind.Prism (known_after [] earlier) d) d.from None p.1 in
-    (subst (λ n. IsEarlier is_rect earlier n) (sym profile_is) (named_earlier is_rect earlier (number_in s a) (kept_name s kind.Prism (known_after [] earlier) a h'.1 p.0)),
-     subst (λ x. IsExtent s 1000000 x) (sym depth_is) (extent s 1000000 d h'.2.0 (kept_length s kind.Prism (known_after [] earlier) d h'.2.1 q.0)))
+    let q = unless_none (is_kept s kind.Prism (known_after [] earlier) d) d.from None p.1 in (
+      subst (λ n. IsEarlier is_rect earlier n) (sym profile_is) (named_earlier is_rect earlier (number_in s a) (kept_name s kind.Prism (known_after [] earlier) a h'.1 p.0)),
+      subst (λ x. IsExtent s 1000000 x) (sym depth_is) (extent s 1000000 d h'.2.0 (kept_length s kind.Prism (known_after [] earlier) d h'.2.1 q.0)),
+    )
 parts_kept s earlier (Combine number difference first second) name free h (o, a, b, is, number_is, difference_is, first_is, second_is) e =
     let h' : AllPass s (Operator ∷ Name ∷ Name ∷ []) (o ∷ a ∷ b ∷ []) = subst (λ x. AllPass s (Operator ∷ Name ∷ Name ∷ []) x) is h in
     let e' : first_misfit s kind.Combine (known_after [] earlier) (o ∷ a ∷ b ∷ []) ≡ None = subst (λ x. first_misfit s kind.Combine (known_after [] earlier) x ≡ None) is e in
     let p = unless_none (is_kept s kind.Combine (known_after [] earlier) o) o.from (first_misfit s kind.Combine (known_after [] earlier) (a ∷ b ∷ [])) e' in
     let q = unless_none (is_kept s kind.Combine (known_after [] earlier) a) a.from (first_misfit s kind.Combine (known_after [] earlier) (b ∷ [])) p.1 in
-    let r = unless_none (is_kept s kind.Combine (known_after [] earlier) b) b.from None q.1 in
-    (subst (λ n. IsEarlier is_solid earlier n) (sym first_is) (named_earlier is_solid earlier (number_in s a) (kept_name s kind.Combine (known_after [] earlier) a h'.2.1 q.0)),
-     subst (λ n. IsEarlier is_solid earlier n) (sym second_is) (named_earlier is_solid earlier (number_in s b) (kept_name s kind.Combine (known_after [] earlier) b h'.2.2.1 r.0)))
+    let r = unless_none (is_kept s kind.Combine (known_after [] earlier) b) b.from None q.1 in (
+      subst (λ n. IsEarlier is_solid earlier n) (sym first_is) (named_earlier is_solid earlier (number_in s a) (kept_name s kind.Combine (known_after [] earlier) a h'.2.1 q.0)),
+      subst (λ n. IsEarlier is_solid earlier n) (sym second_is) (named_earlier is_solid earlier (number_in s b) (kept_name s kind.Combine (known_after [] earlier) b h'.2.2.1 r.0)),
+    )

@@ -14,3 +14,4 @@ pub mod Names
 pub mod Reading
 pub mod Kept
 pub mod Soundness
+pub mod OneFile

@@ -1,9 +1,9 @@
 -- One more solid line of a file, and the line of the shape behind them.
-use Rattle.std.proofs.Common.{ℕ, ◌≡◌, ◌<◌, ◌≤◌, true, false, Bool, List, [], ◌∷◌, ◌++◌, map, Option, Some, None, refl, sym, ◌∙◌, ap, subst, inl, inr, ◌⊎◌}
+use Rattle.std.proofs.Common.{ℕ, ◌≡◌, true, false, List, [], ◌∷◌, ◌++◌, Option, Some, None, refl, sym, ◌∙◌, ap, subst, inl, inr, ◌⊎◌}
 use Rattle.spec_step.specs.Gaps.{IsNext}
 use Rattle.spec_step.specs.Form.{Fixed, Follows, Leaves, HasForm, Departs, is_name, is_name_step, place_of}
 use Rattle.spec_step.specs.Slots.{Fills, Misses, step_passes}
-use Rattle.spec_step.specs.Lines.{Stated, IsHead, IsLineAt, AreLinesAt, IsShapeAt, IsFile, DepartsAt, DepartsBehind, DepartsFile, Says, begun, kind_of, span_of, named, number_in, head_slots, line_slots, before_lines, before_item, behind_item, shape_form}
+use Rattle.spec_step.specs.Lines.{Stated, IsHead, IsLineAt, AreLinesAt, IsFile, DepartsBehind, DepartsFile, Says, begun, kind_of, span_of, number_in, head_slots, line_slots, before_lines, before_item, behind_item, shape_form}
 use Rattle.spec_step.specs.Rules.{or_then, unless, look, is_of, is_solid, entry, known_after, line_break, lines_break, said, first_break, IsKept, BreaksAt}
 use Rattle.spec_step.specs.declared.token.Token.{Token}
 use Rattle.spec_step.specs.declared.token.TokenStep.{TokenStep}
@@ -13,7 +13,7 @@ use Rattle.spec_step.specs.declared.line.LineKind.{LineKind}
 use Rattle.spec_step.specs.declared.line.PlainLine.{PlainLine}
 use Rattle.spec_step.specs.declared.line.Known.{Known}
 use Rattle.spec_step.specs.declared.line.Begun.{Begun}
-use Rattle.spec_step.specs.declared.line.Begun.TheVariants.{Solid, Shape, Nothing}
+use Rattle.spec_step.specs.declared.line.Begun.TheVariants.{Solid, Shape}
 use Rattle.step_text.specs.Wide.{IfNotBuilt, IsRead, AreReadToShape, DepartsBehindLines}
 use Rattle.step_text.specs.declared.wide_fault.WideFault.{WideFault}
 use Rattle.step_text.specs.declared.wide_fault.WideFault.TheVariants.{NotBuilt, NoMemory}

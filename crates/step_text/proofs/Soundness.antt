@@ -1,10 +1,10 @@
 -- The lines of a file in which no rule is broken.
-use Rattle.std.proofs.Common.{ℕ, ◌≡◌, ◌≤◌, zero, suc, true, Bool, not, ◌&&◌, List, [], ◌∷◌, ◌++◌, take, Option, Some, None, refl, sym, ◌∙◌, ap, subst, append_assoc, append-nil}
+use Rattle.std.proofs.Common.{ℕ, ◌≡◌, zero, suc, not, List, [], ◌∷◌, ◌++◌, take, Option, Some, None, sym, ◌∙◌, ap, subst, append_assoc, append-nil}
 use Rattle.std.specs.Prelude.{slice_get, is_none, nat_le}
-use Rattle.std.proofs.lemmas.Bool.{and_parts, leb-true, true≢false}
+use Rattle.std.proofs.lemmas.Bool.{and_parts, leb-true}
 use Rattle.spec_step.specs.Lines.{Stated, IsLineAt, AreLinesAt, kind_of, named}
 use Rattle.spec_step.specs.Rules.{or_then, unless, look, is_of, is_solid, is_fixed, is_fresh, is_small, number_of, count_of, depth_of, entry, known_after, first_misfit, line_break, lines_break, said, IsKept}
-use Rattle.spec_step.specs.Sound.{IsEarlier, IsSound, AreLines}
+use Rattle.spec_step.specs.Sound.{IsSound, AreLines}
 use Rattle.spec_step.specs.declared.line.PlainLine.{PlainLine}
 use Rattle.spec_step.specs.declared.line.Known.{Known}
 use Rattle.step_text.proofs.Kept.{free_pass, unless_none, not_true, named_earlier, no_other, parts_kept}

@@ -190,7 +190,7 @@ one_next s from End (Got t) p q = absurd (got_end s from t q p)
 one_next s from End (Bad at) p q = absurd (bad_end s from at q p)
 one_next s from End End p q = refl
 
-one_got : (s : List ℕ) (from : ℕ) (t u : Token) → IsNext s from (Got t) → IsNext s from (Got u) → t ≡ u
+pub one_got : (s : List ℕ) (from : ℕ) (t u : Token) → IsNext s from (Got t) → IsNext s from (Got u) → t ≡ u
 one_got s from t u p q = one_token s t u (one_gap s from t.from u.from p.0 q.0) p.1 q.1 p.2 q.2
 
 -- what follows a matched front of a part: in the part a token, and here the same one
@@ -234,7 +234,7 @@ one_walk part s P Q R both first second (suc m) (suc n) i at j to j' to' p at_p 
 no_more : (part s : List ℕ) (to_end j to : ℕ) (f t : Token) → Goes part s j to f t → IsNext part j End × (to ≡ to_end) → ⊥
 no_more part s to_end j to f t h k = got_end part j f h.0 k.0
 
-one_follow : (part s : List ℕ) (at p q : ℕ) → Follows part s at p → Follows part s at q → p ≡ q
+pub one_follow : (part s : List ℕ) (at p q : ℕ) → Follows part s at p → Follows part s at q → p ≡ q
 one_follow part s at p q h k =
     one_walk part s (λ j to. IsNext part j End × (to ≡ p)) (λ j to. IsNext part j End × (to ≡ q)) (p ≡ q)
     (λ j to a b. sym a.1 ∙ b.1)
@@ -242,7 +242,7 @@ one_follow part s at p q h k =
     (λ j to f t g a. absurd (no_more part s q j to f t g a))
     h.0 k.0 0 at h.1 p k.1 q h.2 (h.3, refl) k.2 (k.3, refl)
 
-one_leave : (part s : List ℕ) (at p q : ℕ) → Leaves part s at p → Leaves part s at q → p ≡ q
+pub one_leave : (part s : List ℕ) (at p q : ℕ) → Leaves part s at p → Leaves part s at q → p ≡ q
 one_leave part s at p q h k =
     one_walk part s (λ j to. LeavesAt part s j to p) (λ j to. LeavesAt part s j to q) (p ≡ q)
     (λ j to a b. leaves_once part s j to p q a b)
@@ -250,7 +250,7 @@ one_leave part s at p q h k =
     (λ j to f t g a. absurd (goes_or_leaves part s j to f t q g a))
     h.0 k.0 0 at h.1 h.2 k.1 k.2 h.5 (h.3, h.4, h.6, h.7, h.8, h.9) k.5 (k.3, k.4, k.6, k.7, k.8, k.9)
 
-follows_or_leaves : (part s : List ℕ) (at p q : ℕ) → Follows part s at p → Leaves part s at q → ⊥
+pub follows_or_leaves : (part s : List ℕ) (at p q : ℕ) → Follows part s at p → Leaves part s at q → ⊥
 follows_or_leaves part s at p q h k =
     one_walk part s (λ j to. IsNext part j End × (to ≡ p)) (λ j to. LeavesAt part s j to q) ⊥
     (λ j to a b. got_end part j b.0 b.2 a.0)

@@ -128,9 +128,7 @@ fn passes(slot: Slot, source: &[u8], token: &Token) -> bool
         Slot::Mark(byte) => text(source, token) == [byte].as_slice(),
         Slot::Area => text(source, token) == AREA,
         Slot::Upwards => text(source, token) == UPWARDS,
-        Slot::Operator => {
-            text(source, token) == UNION || text(source, token) == DIFFERENCE
-        }
+        Slot::Operator => { text(source, token) == UNION || text(source, token) == DIFFERENCE }
         Slot::Word => token.kind == TokenKind::Keyword,
         Slot::Name => token.kind == TokenKind::Number,
         Slot::Length => matches!(token.kind, TokenKind::Int | TokenKind::Real),

@@ -17,7 +17,8 @@ use crate::wide_fault::WideFault;
 use spec_step::{Begun, Known, LineKind, PlainLine, Slot, Token};
 use std::alloc::{AllocError, Global};
 
-/// A file of solid lines: what they say, and the number of the line that is the shape's item.
+/// A file of solid lines: what they say, in their order, and the number of the line that is the
+/// shape's item.
 #[derive(Debug, Drop)]
 pub struct WidePlain {
     pub lines: Vec<PlainLine>,
@@ -115,8 +116,8 @@ fn read_line(
     requires word { head.now.word.end ≤ length source.now }
     ensures form { MatchResult result
         (λ end. (from : ℕ) → (at : ℕ) → IsHead source.now at head.now.name head.now.word → begun source.now head.now.name head.now.word ≡ Solid kind
-            → IsRead source.now from at book.old.lines.items book.old.known.items book.old.broken
-            → IsRead source.now from end book.new.lines.items book.new.known.items book.new.broken)
+        → IsRead source.now from at book.old.lines.items book.old.known.items book.old.broken
+        → IsRead source.now from end book.new.lines.items book.new.known.items book.new.broken)
         (λ fault. IfNotBuilt fault (Misses (line_slots kind) source.now head.now.word.end)) }
     ensures within { IfOk result (λ end. (head.now.word.end ≤ end) × (end ≤ length source.now)) }
 {
@@ -161,7 +162,24 @@ fn read_shape(source: &[u8], from: usize) -> Result<Token, PlainFault>
     Ok(item)
 }
 
-/// Reads a file.
+/// Reads a file of one wall whose shape is one solid: fixed lines, then any number of solid lines,
+/// then the line of the shape with one item, and fixed lines again. The fixed lines are the tokens
+/// of this project's own texts, keywords in any case, with any blanks and comments between them
+/// (ISO 10303-21). The solid lines are points, axes, blocks, rectangles, extrusions upwards, and
+/// unions and differences (ISO 10303-42, IFC4), each of one form.
+///
+/// Beyond the form there are rules (this project's own): no number stands for two lines; a line
+/// names earlier lines of the fitting kinds alone, or the fixed point 3 or axes 4; coordinates have
+/// sizes of at most 500,000 millimetres, extents of a block are above 0 and at most 500,000, other
+/// lengths above 0 and at most 1,000,000; a solid has at most 4096 triangles, 24 for each box as
+/// often as it is named, and its parts stand at most 64 deep; the item is a solid.
+///
+/// # Errors
+///
+/// `NotBuilt` with the first place, in bytes, at which the text departs from the form, or else the
+/// first at which a line breaks a rule: lines in their order, and in each its number, then its
+/// references and lengths in their order, then its count and its depth, placed at its number; the
+/// item comes last. `NoMemory` where memory was wanting.
 pub fn wide_file(alloc: Global, source: &[u8]) -> Result<WidePlain, WideFault>
     ensures form { MatchResult result (λ plain. IsKept source.now plain.lines.items plain.item)
         (λ fault. IfNotBuilt fault (λ place. DepartsFile source.now place ⊎ BreaksAt source.now place)) }

@@ -166,3 +166,37 @@ fn refuses_at_the_first_fault(rt: HostRuntime) -> Result<(), Fail> {
     }
     Ok(())
 }
+
+fn span(from: usize, end: usize) -> Span {
+    Span { from, end }
+}
+
+#[test]
+fn reads_lines(rt: HostRuntime) -> Result<(), Fail> {
+    let lines = "#9=IFCRECTANGLEPROFILEDEF(.AREA.,$,$,1000.,1000.);
+#10=IFCEXTRUDEDAREASOLID(#9,$,#8,1000.);
+#0021=IFCBOOLEANRESULT(.DIFFERENCE.,#10,#010);
+";
+    let text = file(rt.alloc(), lines, "#21")?;
+    let plain = wide_file(rt.alloc(), text.as_bytes())?;
+    let want = [
+        PlainLine::Rect {
+            number: 9,
+            sizes: [span(464, 469), span(470, 475)],
+        },
+        PlainLine::Prism {
+            number: 10,
+            profile: 9,
+            depth: span(511, 516),
+        },
+        PlainLine::Combine {
+            number: 21,
+            difference: true,
+            first: 10,
+            second: 10,
+        },
+    ];
+    assert_eq!(rt; plain.lines.as_slice(), want.as_slice());
+    assert_eq!(rt; plain.item, 21);
+    Ok(())
+}

@@ -1,4 +1,4 @@
-use Rattle.std.proofs.Common.{◌≡◌, ◌+◌, ◌-◌, ◌*◌, ◌^◌, ◌<◌, arith, get_or}
+use Rattle.std.proofs.Common.{arith}
 use Rattle.step_text.proofs.Names.{digit_fits}
 use Rattle.step_text.proofs.rules.digits_value.Goals as goal
 

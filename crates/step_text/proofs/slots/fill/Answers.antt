@@ -1,8 +1,5 @@
-use Rattle.std.proofs.Common.{ℕ, ◌≡◌, ◌+◌, ◌≤◌, ◌++◌, ◌∙◌, [], ◌∷◌, List, length, drop, arith, sym, refl, subst, inl, append-nil, slice_index_or, add-one, length-drop, ap}
-use Rattle.std.proofs.Math.Seq.{drop-cons}
-use Rattle.spec_step.specs.Slots.{kept, Fills, Misses}
-use Rattle.spec_step.specs.declared.token.Token.{Token}
-use Rattle.spec_step.specs.declared.line.Slot.{Slot}
+use Rattle.std.proofs.Common.{◌++◌, ◌∙◌, [], arith, sym, subst, append-nil, slice_index_or, ap}
+use Rattle.spec_step.specs.Slots.{Fills}
 use Rattle.spec_step.specs.declared.line.Slot.TheVariants.{Mark}
 use Rattle.step_text.proofs.Filling.{kept_behind, one_filled, one_passed, one_missed, all_filled, next_slot}
 use Rattle.step_text.proofs.Faults.{handed_on}

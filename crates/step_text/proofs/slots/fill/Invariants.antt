@@ -1,4 +1,4 @@
-use Rattle.std.proofs.Common.{◌≡◌, ℕ, ◌≤◌, List, ◌++◌, length, drop}
+use Rattle.std.proofs.Common.{ℕ, ◌≤◌, List, ◌++◌, length, drop}
 use Rattle.spec_step.specs.Slots.{Fills, Misses}
 use Rattle.spec_step.specs.declared.token.Token.{Token}
 use Rattle.step_text.proofs.slots.fill.Given as goal

@@ -1,14 +1,11 @@
-use Rattle.std.proofs.Common.{ℕ, ◌≡◌, sym, subst, refl, ◌∙◌, List}
+use Rattle.std.proofs.Common.{◌≡◌, sym, subst, List}
 use Rattle.std.specs.List.{All}
 use Rattle.spec_step.specs.Slots.{Fills}
-use Rattle.spec_step.specs.Lines.{Stated, IsHead, IsLineAt, begun, kind_of, line_slots, Says}
+use Rattle.spec_step.specs.Lines.{Stated, IsLineAt, line_slots, Says}
 use Rattle.spec_step.specs.Rules.{or_then, line_break}
-use Rattle.spec_step.specs.declared.line.Begun.TheVariants.{Solid}
 use Rattle.spec_step.specs.declared.line.Slot.{Slot}
-use Rattle.spec_step.specs.declared.line.LineKind.{LineKind}
-use Rattle.spec_step.specs.declared.line.PlainLine.{PlainLine}
 use Rattle.spec_step.specs.declared.token.Token.{Token}
-use Rattle.step_text.specs.Wide.{IsTokenIn, IsRead}
+use Rattle.step_text.specs.Wide.{IsTokenIn}
 use Rattle.step_text.proofs.Filling.{free_tokens}
 use Rattle.step_text.proofs.Reading.{read_more, line_at}
 use Rattle.step_text.proofs.wide.read_line.Goals as goal
@@ -32,5 +29,5 @@ returns-clause-form c from at head is read =
     read_more s from at c.in_ok-free.end c.args.book.now.lines.items c.add.new.self.lines.items c.args.book.now.known.items c.add.new.self.known.items
     c.args.book.now.broken c.add.new.self.broken more read stands c.in_ok-add.ensures.lines
     (subst (λ (x : List Token). c.add.new.self.broken ≡ or_then c.args.book.now.broken (line_break s c.args.book.now.known.items (record { line = line; name = c.args.head.now.name; free = x })))
-        c.as_slice-2.ensures.value c.in_ok-add.ensures.broken)
+    c.as_slice-2.ensures.value c.in_ok-add.ensures.broken)
     c.in_ok-add.ensures.known

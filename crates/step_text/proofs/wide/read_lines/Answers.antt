@@ -1,4 +1,4 @@
-use Rattle.std.proofs.Common.{ℕ, ◌≡◌, sym, ◌∙◌, refl}
+use Rattle.std.proofs.Common.{refl}
 use Rattle.spec_step.specs.declared.line.Begun.TheVariants.{Solid, Nothing}
 use Rattle.step_text.proofs.Faults.{handed_on}
 use Rattle.step_text.proofs.Reading.{line_departs, not_built_on}
@@ -14,6 +14,6 @@ returns-in_err-at-in-Solid-clause-form c =
     handed_on c.from_residual-in_err-at-in-Solid.result c.in_err-at-in-Solid.field-0.0 _ _ c.from_residual-in_err-at-in-Solid.ensures.1
     (not_built_on c.in_err-at-in-Solid.field-0.0 _ _
     (λ place misses.
-        line_departs c.args.source.now c.args.from c.loop-book.at place c.loop-book.book.lines.items c.loop-book.book.known.items c.loop-book.book.broken
-        c.in_ok-head.head.name c.in_ok-head.head.word (Solid c.in-Solid.kind) c.loop-book.invariant.read c.in_ok-head.ensures.form c.in-Solid.ensures misses)
+    line_departs c.args.source.now c.args.from c.loop-book.at place c.loop-book.book.lines.items c.loop-book.book.known.items c.loop-book.book.broken
+    c.in_ok-head.head.name c.in_ok-head.head.word (Solid c.in-Solid.kind) c.loop-book.invariant.read c.in_ok-head.ensures.form c.in-Solid.ensures misses)
     c.in_err-at-in-Solid.ensures.form)

@@ -1,4 +1,4 @@
-use Rattle.std.proofs.Common.{ℕ, ◌≤◌, ◌-◌, length}
+use Rattle.std.proofs.Common.{◌≤◌, ◌-◌, length}
 use Rattle.step_text.specs.Wide.{IsRead}
 use Rattle.step_text.proofs.wide.read_lines.Given as goal
 

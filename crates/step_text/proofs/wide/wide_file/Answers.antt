@@ -1,4 +1,4 @@
-use Rattle.std.proofs.Common.{ℕ, ◌≡◌, sym, subst, ◌∙◌, refl, List}
+use Rattle.std.proofs.Common.{sym, subst, List}
 use Rattle.spec_step.specs.Lines.{before_lines}
 use Rattle.spec_step.specs.Rules.{IsKept}
 use Rattle.spec_step.specs.declared.line.PlainLine.{PlainLine}
