@@ -9,7 +9,7 @@ use Rattle.spec_page.specs.Page.{page_text}
 use Rattle.spec_run.specs.Runs.{IsFound, IsNumbered}
 use Rattle.spec_run.specs.declared.Outcome.{Outcome}
 use Rattle.spec_run.specs.declared.Outcome.TheVariants.{Page, NotBuilt, TooLarge, ReadFault, NoMemory, Usage}
-use Rattle.step_text.proofs.Unique.{one_form, no_both_forms}
+use Rattle.step_text.proofs.OneFile.{kept_or_refused}
 use Rattle.ix_convert.specs.Statuses.{status_of, Yields}
 use Rattle.ix_convert.specs.declared.status.Status.{Status}
 use Rattle.ix_convert.specs.declared.status.Status.TheVariants as status
@@ -19,15 +19,9 @@ pub told : (known : Option (List ℕ)) (bytes : List ℕ) (P : List ℕ → Type
 told None bytes P e h = tt
 told (Some given) bytes P e h = subst P e h
 
-some_none : (at : ℕ) → Some at ≡ None → ⊥
-some_none at e = cc
-
--- a file of a box has no fault of its form, and no number that is wrong
-pub box_is_built : (s : List ℕ) (numbers : List Span) (at : ℕ) → IsBox s numbers → IsNotBuilt s at → ⊥
-box_is_built s numbers at box (small, inl departs) = no_both_forms box_form s 0 numbers at box.1 departs
-box_is_built s numbers at box (small, inr wrong) =
-    let same = one_form box_form s 0 wrong.0 numbers wrong.1 box.1 in
-    some_none at (sym wrong.2 ∙ subst (λ ns. first_wrong s ns ≡ None) (sym same) box.2)
+-- a file of a wall has no fault of its form, and no rule is broken
+pub wall_is_built : (s : List ℕ) (lines : List PlainLine) (item at : ℕ) → IsWall s lines item → IsNotBuilt s at → ⊥
+wall_is_built s lines item at wall refused = kept_or_refused s lines item at wall.1 refused.1
 
 words_clash : (words : List (List ℕ)) → names_convert words ≡ true → names_convert words ≡ false → ⊥
 words_clash words p q = true≢false (sym p ∙ q)
@@ -40,20 +34,20 @@ pub refused_by : (words : List (List ℕ)) (given page : List ℕ) (o : Outcome)
     → names_convert words ≡ true → IsFound words given page o → (result ≡ status_of o) ⊎ (result ≡ status.WriteFault) → IsNotBuilt given at → Yields result status.FileRefused
 refused_by words given page o result at convert found (inr fault) wrong = inr fault
 refused_by words given page (Page corners faces) result at convert found (inl e) wrong =
-    absurd (box_is_built given found.1.0 at found.1.2 wrong)
+    absurd (wall_is_built given found.1.0 found.1.1 at found.1.3 wrong)
 refused_by words given page (NotBuilt place) result at convert found (inl e) wrong = inl (inl (inl e))
 refused_by words given page TooLarge result at convert found (inl e) wrong = inl (inl (inl e))
 refused_by words given page ReadFault result at convert found (inl e) wrong = inl (inl (inr e))
 refused_by words given page NoMemory result at convert found (inl e) wrong = inl (inr e)
 refused_by words given page Usage result at convert found (inl e) wrong = absurd (words_clash words convert found.0)
 
--- a file of a box is converted
+-- a file of a wall is converted
 pub converted_by : (words : List (List ℕ)) (given page : List ℕ) (o : Outcome) (result : Status) (lines : List PlainLine) (item : ℕ)
     → names_convert words ≡ true → IsFound words given page o → (result ≡ status_of o) ⊎ (result ≡ status.WriteFault) → IsWall given lines item → Yields result status.Done
 converted_by words given page o result lines item convert found (inr fault) wall = inr fault
 converted_by words given page (Page corners faces) result lines item convert found (inl e) wall = inl (inl (inl e))
-converted_by words given page (NotBuilt place) result lines item convert found (inl e) wall = absurd (box_is_built given numbers place box found.1.0)
-converted_by words given page TooLarge result lines item convert found (inl e) wall = absurd (too_long given box.0 found.1.0)
+converted_by words given page (NotBuilt place) result lines item convert found (inl e) wall = absurd (wall_is_built given lines item place wall found.1.0)
+converted_by words given page TooLarge result lines item convert found (inl e) wall = absurd (too_long given wall.0 found.1.0)
 converted_by words given page ReadFault result lines item convert found (inl e) wall = inl (inl (inr e))
 converted_by words given page NoMemory result lines item convert found (inl e) wall = inl (inr e)
 converted_by words given page Usage result lines item convert found (inl e) wall = absurd (words_clash words convert found.0)

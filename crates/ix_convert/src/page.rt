@@ -7,9 +7,8 @@ ghost use Rattle.plain_engine.specs.Prints.{page_corners, element_of};
 
 use exact_mesh::MeshFace;
 use plain_engine::PrintedMesh;
-use plane_core::Corner;
-use spec_page::Frame;
-use spec_space::Vector;
+use spec_page::{Corner, Frame};
+use spec_space::{Plane, Point, Vector};
 use std::alloc::AllocError;
 
 /// Appends a whole number behind a space.
@@ -80,13 +79,12 @@ fn put_spaced_metres(page: &mut Vec<u8>, micro: i128) -> Result<(), AllocError>
 }
 
 /// Appends the line of a plane behind its sign.
-fn put_plane(page: &mut Vec<u8>, sign: &[u8], plane: &[i128; 4]) -> Result<(), AllocError>
-    ensures { OnOk result (page.new.items ≡ page.old.items ++ plane_line sign.now (plane_of plane.now)) }
+fn put_plane(page: &mut Vec<u8>, sign: &[u8], plane: &Plane) -> Result<(), AllocError>
+    ensures { OnOk result (page.new.items ≡ page.old.items ++ plane_line sign.now plane.now) }
 {
-    let [a, b, c, d] = plane;
     page.extend_from_slice(sign)?;
-    put_three(page, *a, *b, *c)?;
-    put_spaced(page, *d)?;
+    put_three(page, plane.a, plane.b, plane.c)?;
+    put_spaced(page, plane.d)?;
     page.push(b'\n')?;
     Ok(())
 }
@@ -103,51 +101,77 @@ fn put_frame(page: &mut Vec<u8>, frame: &Frame) -> Result<(), AllocError>
     Ok(())
 }
 
-fn put_exact(page: &mut Vec<u8>, corner: &Corner) -> Result<(), AllocError>
-    ensures { OnOk result (page.new.items ≡ page.old.items ++ exact_line (point_of corner.now)) }
+fn put_exact(page: &mut Vec<u8>, point: &Point) -> Result<(), AllocError>
+    ensures { OnOk result (page.new.items ≡ page.old.items ++ exact_line point.now) }
 {
     page.extend_from_slice(b"#c")?;
-    put_three(page, corner.x, corner.y, corner.z)?;
-    put_spaced(page, corner.w)?;
+    put_three(page, point.x, point.y, point.z)?;
+    put_spaced(page, point.w)?;
     page.push(b'\n')?;
     Ok(())
 }
 
-fn put_printed(page: &mut Vec<u8>, printed: &[i128; 3]) -> Result<(), AllocError>
-    ensures { OnOk result (page.new.items ≡ page.old.items ++ printed_line (vector_of printed.now)) }
+fn put_printed(page: &mut Vec<u8>, printed: &Vector) -> Result<(), AllocError>
+    ensures { OnOk result (page.new.items ≡ page.old.items ++ printed_line printed.now) }
 {
-    let [x, y, z] = printed;
     page.push(b'v')?;
-    put_spaced_metres(page, *x)?;
-    put_spaced_metres(page, *y)?;
-    put_spaced_metres(page, *z)?;
+    put_spaced_metres(page, printed.x)?;
+    put_spaced_metres(page, printed.y)?;
+    put_spaced_metres(page, printed.z)?;
     page.push(b'\n')?;
     Ok(())
 }
 
-fn put_corner(
-    page: &mut Vec<u8>,
-    corner: &Corner,
-    printed: &[i128; 3],
-) -> Result<(), AllocError>
-    ensures { OnOk result (page.new.items ≡ page.old.items ++ corner_lines (record { exact = point_of corner.now; printed = vector_of printed.now })) }
+fn put_corner(page: &mut Vec<u8>, corner: &Corner) -> Result<(), AllocError>
+    ensures { OnOk result (page.new.items ≡ page.old.items ++ corner_lines corner.now) }
 {
-    put_exact(page, corner)?;
-    put_printed(page, printed)
+    put_exact(page, &corner.exact)?;
+    put_printed(page, &corner.printed)
+}
+
+fn plane(numbers: &[i128; 4]) -> Plane
+    ensures { result ≡ plane_of numbers.now }
+{
+    let [a, b, c, d] = *numbers;
+    Plane { a, b, c, d }
+}
+
+fn vector(numbers: &[i128; 3]) -> Vector
+    ensures { result ≡ vector_of numbers.now }
+{
+    let [x, y, z] = *numbers;
+    Vector { x, y, z }
+}
+
+fn page_corner(corner: &plane_core::Corner, printed: &[i128; 3]) -> Corner
+    ensures { result ≡ record { exact = point_of corner.now; printed = vector_of printed.now } }
+{
+    Corner {
+        exact: Point {
+            x: corner.x,
+            y: corner.y,
+            z: corner.z,
+            w: corner.w,
+        },
+        printed: vector(printed),
+    }
 }
 
 /// Appends the exact corners with the printed ones.
 fn put_corners(
     page: &mut Vec<u8>,
-    corners: &[Corner],
+    corners: &[plane_core::Corner],
     printed: &[[i128; 3]],
 ) -> Result<(), AllocError>
     ensures { OnOk result (page.new.items ≡ page.old.items ++ flat_map corner_lines (page_corners corners.now printed.now)) }
 {
     let mut corners = corners;
     let mut printed = printed;
-    while let ([corner, more @ ..], [place, places @ ..]) = (corners, printed) {
-        put_corner(page, corner, place)?;
+    while let [corner, more @ ..] = corners {
+        let [place, places @ ..] = printed else {
+            return Ok(());
+        };
+        put_corner(page, &page_corner(corner, place))?;
         corners = more;
         printed = places;
     }
@@ -158,7 +182,7 @@ fn put_edges(page: &mut Vec<u8>, edges: &[[i128; 4]]) -> Result<(), AllocError>
     ensures { OnOk result (page.new.items ≡ page.old.items ++ flat_map (λ e. plane_line (codes "#e") (plane_of e)) edges.now) }
 {
     for edge in edges {
-        put_plane(page, b"#e", edge)?;
+        put_plane(page, b"#e", &plane(edge))?;
     }
     Ok(())
 }
@@ -193,7 +217,7 @@ fn put_indices(page: &mut Vec<u8>, places: &[usize]) -> Result<(), AllocError>
 fn put_face(page: &mut Vec<u8>, face: &MeshFace) -> Result<(), AllocError>
     ensures { OnOk result (page.new.items ≡ page.old.items ++ face_lines 0 (face_of face.now)) }
 {
-    put_plane(page, b"#p", &face.plane)?;
+    put_plane(page, b"#p", &plane(&face.plane))?;
     put_edges(page, &face.edges)?;
     put_indices(page, &face.corners)
 }
