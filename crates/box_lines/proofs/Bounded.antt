@@ -1,9 +1,9 @@
 -- The numbers of the lines of a file that keeps the rules are within their bounds.
-use Rattle.std.proofs.Common.{◌≡◌, ℕ, ◌<◌, List, length, slice_index_or, All}
+use Rattle.std.proofs.Common.{ℕ, List, slice_index_or, All}
 use Rattle.std.proofs.lemmas.Option.{slice_get-get_or}
 use Rattle.spec_step.specs.declared.line.PlainLine.{PlainLine}
 use Rattle.spec_step.specs.declared.line.PlainLine.TheVariants.{Point, Axes, Block, Rect, Prism, Combine}
-use Rattle.spec_step.specs.Sound.{HasParts, IsSound, AreLines}
+use Rattle.spec_step.specs.Sound.{HasParts, AreLines}
 use Rattle.box_lines.specs.Sizes.{IsBounded}
 
 parts_bounded : (s : List ℕ) (earlier : List PlainLine) (line : PlainLine) → HasParts s earlier line → IsBounded s line

@@ -1,6 +1,6 @@
 -- A solid that keeps the rules is made of few boxes.
-use Rattle.std.proofs.Common.{◌≡◌, ℕ, zero, suc, ◌+◌, ◌*◌, ◌-◌, ◌<◌, ◌≤◌, List, [], ◌∷◌, take, Option, Some, None, refl, sym, ap, ◌∙◌, arith}
-use Rattle.spec_step.specs.Rules.{look, known_after, count_in, count_of, is_solid}
+use Rattle.std.proofs.Common.{◌≡◌, ℕ, zero, suc, ◌+◌, ◌*◌, ◌-◌, ◌<◌, ◌≤◌, List, [], Option, Some, None, refl, ap, arith}
+use Rattle.spec_step.specs.Rules.{look, known_after, count_in, is_solid}
 use Rattle.spec_step.specs.Sound.{AreLines}
 use Rattle.spec_step.specs.declared.line.PlainLine.{PlainLine}
 use Rattle.spec_step.specs.declared.line.PlainLine.TheVariants.{Point, Axes, Block, Rect, Prism, Combine}

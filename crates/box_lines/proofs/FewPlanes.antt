@@ -1,8 +1,7 @@
 -- The planes of solids that are made of few boxes.
-use Rattle.std.proofs.Common.{◌≡◌, ℕ, ◌+◌, ◌*◌, ◌≤◌, Bool, true, false, ◌&&◌, cond, pos, int_lt, List, [], ◌∷◌, ◌++◌, length, Result, Ok, Err, IfOk, refl, ap, ◌∙◌, arith, lit≤}
+use Rattle.std.proofs.Common.{◌≡◌, ℕ, ◌+◌, ◌*◌, ◌≤◌, true, false, ◌&&◌, cond, int_lt, List, [], ◌∷◌, ◌++◌, length, Result, Ok, Err, IfOk, ap, ◌∙◌, arith, lit≤}
 use Rattle.std.proofs.lemmas.List.{length-append}
 use Rattle.spec_space.specs.declared.Plane.{Plane}
-use Rattle.spec_space.specs.declared.Vector.{Vector}
 use Rattle.spec_solid.specs.Extrusions.{plus}
 use Rattle.spec_run.specs.Boxes.{on_grid, origin}
 use Rattle.box_mesh.specs.declared.bounds.Bounds.{Bounds}

@@ -1,11 +1,10 @@
 -- What is known of the line that a number finds.
-use Rattle.std.proofs.Common.{◌≡◌, ℕ, zero, suc, ◌==◌, Bool, true, false, cond, List, [], ◌∷◌, ◌++◌, take, drop, Option, Some, None, refl, sym, ap, subst, ◌∙◌}
+use Rattle.std.proofs.Common.{◌≡◌, ℕ, zero, suc, ◌==◌, Bool, true, false, cond, List, [], ◌∷◌, ◌++◌, take, drop, Some, None, refl, sym, ap, ◌∙◌}
 use Rattle.std.specs.Prelude.{slice_get}
 use Rattle.std.specs.Option.{option_or}
-use Rattle.std.proofs.lemmas.Bool.{eq-eqb, true≢false}
+use Rattle.std.proofs.lemmas.Bool.{eq-eqb}
 use Rattle.std.proofs.lemmas.List.{take-append-drop}
 use Rattle.std.proofs.lemmas.List.Folds.{find-append}
-use Rattle.spec_step.specs.Lines.{kind_of}
 use Rattle.spec_step.specs.Rules.{look, number_of, entry, known_after, count_in}
 use Rattle.spec_step.specs.Sound.{IsEarlier}
 use Rattle.spec_step.specs.declared.line.LineKind.{LineKind}

@@ -1,5 +1,5 @@
 -- What the solid lines of a file stand for: places, profiles and solids, by the numbers of the lines.
-use Rattle.std.specs.Prelude.{ℕ, ℤ, pos, zero, suc, ◌==◌, Bool, List, [], ◌∷◌, map, Option, Some, None, if◌then◌else◌}
+use Rattle.std.specs.Prelude.{ℕ, ℤ, pos, zero, suc, ◌==◌, Bool, List, [], ◌∷◌, Option, Some, if◌then◌else◌}
 use Rattle.std.specs.List.{find}
 use Rattle.spec_num.specs.Decimals.{decimal_units}
 use Rattle.spec_space.specs.declared.Vector.{Vector}

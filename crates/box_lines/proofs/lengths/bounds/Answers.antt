@@ -1,7 +1,6 @@
-use Rattle.std.proofs.Common.{◌≡◌, FitsSigned, ◌+ℤ◌, arith, ap, ◌∙◌}
+use Rattle.std.proofs.Common.{FitsSigned, arith}
 use Rattle.std.proofs.lemmas.Int.{to_z-of_z, ints}
 use mir.Syntax.{w128}
-use Rattle.spec_run.specs.Boxes.{steps}
 use Rattle.box_lines.proofs.lengths.bounds.Goals as goal
 
 pub returns-clause-high : goal.returns-clause-high

@@ -1,5 +1,5 @@
 use Rattle.std.proofs.Common.{FitsSigned, arith}
-use Rattle.std.proofs.lemmas.Int.{to_z-of_z, ints}
+use Rattle.std.proofs.lemmas.Int.{to_z-of_z}
 use Rattle.spec_step.specs.declared.token.Span.{Span}
 use mir.Syntax.{w128}
 use Rattle.box_lines.proofs.places.sizes_at.Goals as goal

@@ -1,4 +1,4 @@
-use Rattle.std.proofs.Common.{◌≡◌, ◌-◌, ◌*◌, ◌<◌, ◌≤◌, length, sym, ◌∙◌, arith, ap, subst, IfOk, Option, rules}
+use Rattle.std.proofs.Common.{◌≡◌, ◌-◌, ◌≤◌, length, sym, ◌∙◌, arith, ap, subst, IfOk, Option, rules}
 use Rattle.spec_solid.specs.Solids.{Solid, Combined}
 use Rattle.spec_step.specs.declared.line.PlainLine.{PlainLine}
 use Rattle.spec_run.specs.Walls.{line_at, solid_by, solid_at}

@@ -1,4 +1,4 @@
-use Rattle.std.proofs.Common.{◌≡◌, ap, sym, ◌∙◌}
+use Rattle.std.proofs.Common.{sym, ◌∙◌}
 use Rattle.spec_solid.specs.Extrusions.{plus}
 use Rattle.spec_run.specs.Boxes.{on_grid, block}
 use Rattle.box_lines.proofs.Swept.{block_is_box, same_box}

@@ -1,9 +1,9 @@
-use Rattle.std.proofs.Common.{◌≡◌, FitsSigned, pos, refl, sym, ◌∙◌, arith}
-use Rattle.std.proofs.lemmas.Int.{to_z-of_z, ints}
+use Rattle.std.proofs.Common.{FitsSigned, pos, refl, sym, ◌∙◌}
+use Rattle.std.proofs.lemmas.Int.{to_z-of_z}
 use mir.Syntax.{w128}
 use Rattle.spec_space.specs.declared.Vector.{Vector}
 use Rattle.spec_solid.specs.Extrusions.{plus}
-use Rattle.spec_run.specs.Boxes.{on_grid, lower}
+use Rattle.spec_run.specs.Boxes.{on_grid}
 use Rattle.box_lines.proofs.Swept.{prism_is_box, same_box}
 use Rattle.box_lines.proofs.solids.prism_of.Goals as goal
 

@@ -18,6 +18,6 @@ returns c =
     ∙ ap (λ l. first ++ l) (sym (flat_map-map (plane_line (codes "#e")) plane_of face.edges.items)) in
     on_ok c.put_indices.result
     (λ e. joined_three old first second c.put_indices.new.page.items (plane_line (codes "#p") (plane_of face.plane))
-        (flat_map (plane_line (codes "#e")) (map plane_of face.edges.items)) (indices_line 0 face.corners.items)
-        plane_put edges_put (e ∙ ap (λ l. second ++ indices_line 0 l) c.deref-2.ensures.value))
+    (flat_map (plane_line (codes "#e")) (map plane_of face.edges.items)) (indices_line 0 face.corners.items)
+    plane_put edges_put (e ∙ ap (λ l. second ++ indices_line 0 l) c.deref-2.ensures.value))
     c.put_indices.ensures

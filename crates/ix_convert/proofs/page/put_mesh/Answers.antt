@@ -21,5 +21,5 @@ returns c =
     ∙ ap (λ l. first ++ l) (sym (flat_map-map (face_lines 0) face_of faces)) in
     on_ok c.put_volume.result
     (λ e. joined_three old first second c.put_volume.new.page.items (flat_map corner_lines corners) (flat_map (face_lines 0) (map face_of faces)) (volume_line mesh.six)
-        corners_put faces_put e)
+    corners_put faces_put e)
     c.put_volume.ensures
