@@ -1,16 +1,15 @@
 -- What is found in an input decides the status.
 use Rattle.std.proofs.Common.{◌≡◌, ℕ, ◌<◌, ◌≤◌, List, [], ◌∷◌, length, true, false, Option, Some, None, IfSome, ◌⊎◌, inl, inr, sym, ◌∙◌, subst, arith}
 use Rattle.std.proofs.lemmas.Bool.{true≢false}
-use Rattle.spec_step.specs.declared.token.Span.{Span}
-use Rattle.spec_step.specs.Form.{box_form, HasForm}
+use Rattle.spec_step.specs.declared.line.PlainLine.{PlainLine}
 use Rattle.spec_run.specs.Words.{names_convert}
-use Rattle.spec_run.specs.Inputs.{most_bytes, first_wrong, IsNotBuilt, IsBox, IsElementOf}
+use Rattle.spec_run.specs.Inputs.{most_bytes, IsNotBuilt, IsWall, IsElementOf}
 use Rattle.spec_page.specs.Element.{Element}
 use Rattle.spec_page.specs.Page.{page_text}
 use Rattle.spec_run.specs.Runs.{IsFound, IsNumbered}
 use Rattle.spec_run.specs.declared.Outcome.{Outcome}
 use Rattle.spec_run.specs.declared.Outcome.TheVariants.{Page, NotBuilt, TooLarge, ReadFault, NoMemory, Usage}
-use Rattle.step_text.proofs.Unique.{one_form, no_both_forms}
+use Rattle.step_text.proofs.OneFile.{kept_or_refused}
 use Rattle.ix_convert.specs.Statuses.{status_of, Yields}
 use Rattle.ix_convert.specs.declared.status.Status.{Status}
 use Rattle.ix_convert.specs.declared.status.Status.TheVariants as status
@@ -20,15 +19,9 @@ pub told : (known : Option (List ℕ)) (bytes : List ℕ) (P : List ℕ → Type
 told None bytes P e h = tt
 told (Some given) bytes P e h = subst P e h
 
-some_none : (at : ℕ) → Some at ≡ None → ⊥
-some_none at e = cc
-
--- a file of a box has no fault of its form, and no number that is wrong
-pub box_is_built : (s : List ℕ) (numbers : List Span) (at : ℕ) → IsBox s numbers → IsNotBuilt s at → ⊥
-box_is_built s numbers at box (small, inl departs) = no_both_forms box_form s 0 numbers at box.1 departs
-box_is_built s numbers at box (small, inr wrong) =
-    let same = one_form box_form s 0 wrong.0 numbers wrong.1 box.1 in
-    some_none at (sym wrong.2 ∙ subst (λ ns. first_wrong s ns ≡ None) (sym same) box.2)
+-- a file of a wall has no fault of its form, and no rule is broken
+pub wall_is_built : (s : List ℕ) (lines : List PlainLine) (item at : ℕ) → IsWall s lines item → IsNotBuilt s at → ⊥
+wall_is_built s lines item at wall refused = kept_or_refused s lines item at wall.1 refused.1
 
 words_clash : (words : List (List ℕ)) → names_convert words ≡ true → names_convert words ≡ false → ⊥
 words_clash words p q = true≢false (sym p ∙ q)
@@ -41,23 +34,23 @@ pub refused_by : (words : List (List ℕ)) (given page : List ℕ) (o : Outcome)
     → names_convert words ≡ true → IsFound words given page o → (result ≡ status_of o) ⊎ (result ≡ status.WriteFault) → IsNotBuilt given at → Yields result status.FileRefused
 refused_by words given page o result at convert found (inr fault) wrong = inr fault
 refused_by words given page (Page corners faces) result at convert found (inl e) wrong =
-    absurd (box_is_built given found.1.0 at found.1.2 wrong)
+    absurd (wall_is_built given found.1.0 found.1.1 at found.1.3 wrong)
 refused_by words given page (NotBuilt place) result at convert found (inl e) wrong = inl (inl (inl e))
 refused_by words given page TooLarge result at convert found (inl e) wrong = inl (inl (inl e))
 refused_by words given page ReadFault result at convert found (inl e) wrong = inl (inl (inr e))
 refused_by words given page NoMemory result at convert found (inl e) wrong = inl (inr e)
 refused_by words given page Usage result at convert found (inl e) wrong = absurd (words_clash words convert found.0)
 
--- a file of a box is converted
-pub converted_by : (words : List (List ℕ)) (given page : List ℕ) (o : Outcome) (result : Status) (numbers : List Span)
-    → names_convert words ≡ true → IsFound words given page o → (result ≡ status_of o) ⊎ (result ≡ status.WriteFault) → IsBox given numbers → Yields result status.Done
-converted_by words given page o result numbers convert found (inr fault) box = inr fault
-converted_by words given page (Page corners faces) result numbers convert found (inl e) box = inl (inl (inl e))
-converted_by words given page (NotBuilt place) result numbers convert found (inl e) box = absurd (box_is_built given numbers place box found.1.0)
-converted_by words given page TooLarge result numbers convert found (inl e) box = absurd (too_long given box.0 found.1.0)
-converted_by words given page ReadFault result numbers convert found (inl e) box = inl (inl (inr e))
-converted_by words given page NoMemory result numbers convert found (inl e) box = inl (inr e)
-converted_by words given page Usage result numbers convert found (inl e) box = absurd (words_clash words convert found.0)
+-- a file of a wall is converted
+pub converted_by : (words : List (List ℕ)) (given page : List ℕ) (o : Outcome) (result : Status) (lines : List PlainLine) (item : ℕ)
+    → names_convert words ≡ true → IsFound words given page o → (result ≡ status_of o) ⊎ (result ≡ status.WriteFault) → IsWall given lines item → Yields result status.Done
+converted_by words given page o result lines item convert found (inr fault) wall = inr fault
+converted_by words given page (Page corners faces) result lines item convert found (inl e) wall = inl (inl (inl e))
+converted_by words given page (NotBuilt place) result lines item convert found (inl e) wall = absurd (wall_is_built given lines item place wall found.1.0)
+converted_by words given page TooLarge result lines item convert found (inl e) wall = absurd (too_long given wall.0 found.1.0)
+converted_by words given page ReadFault result lines item convert found (inl e) wall = inl (inl (inr e))
+converted_by words given page NoMemory result lines item convert found (inl e) wall = inl (inr e)
+converted_by words given page Usage result lines item convert found (inl e) wall = absurd (words_clash words convert found.0)
 
 -- where the report has a number, the words named the job
 pub wants_convert : (words : List (List ℕ)) (given page : List ℕ) (o : Outcome) → IsNumbered o → IsFound words given page o → names_convert words ≡ true
@@ -77,9 +70,9 @@ all_refused words (Some given) page o result found ends convert = λ at wrong. r
 
 pub all_converted : (words : List (List ℕ)) (known : Option (List ℕ)) (page : List ℕ) (o : Outcome) (result : Status)
     → IfSome known (λ given. IsFound words given page o) → (result ≡ status_of o) ⊎ (result ≡ status.WriteFault)
-    → names_convert words ≡ true → IfSome known (λ given. (numbers : List Span) → IsBox given numbers → Yields result status.Done)
+    → names_convert words ≡ true → IfSome known (λ given. (lines : List PlainLine) (item : ℕ) → IsWall given lines item → Yields result status.Done)
 all_converted words None page o result found ends convert = tt
-all_converted words (Some given) page o result found ends convert = λ numbers box. converted_by words given page o result numbers convert found ends box
+all_converted words (Some given) page o result found ends convert = λ lines item wall. converted_by words given page o result lines item convert found ends wall
 
 -- where memory is wanting for a report, want of memory is what is found
 pub without_memory : (words : List (List ℕ)) (known : Option (List ℕ)) (page : List ℕ) (o : Outcome) (P : Outcome → Type 0) → IsNumbered o
@@ -90,7 +83,7 @@ without_memory words (Some given) page o P numbered found p = (NoMemory, wants_c
 -- the one element of the page of a run that is done
 abbrev pub HasElement : List ℕ → List ℕ → Type 0
 HasElement given page =
-    (numbers : List Span) × (e : Element) × IsBox given numbers × IsElementOf given numbers e × (page ≡ page_text 1000 (e ∷ []))
+    (lines : List PlainLine) × (item : ℕ) × (e : Element) × IsWall given lines item × IsElementOf given lines item e × (page ≡ page_text 1000 (e ∷ []))
 
 -- a status that is another one, or a fault of writing, is not that of a run that is done
 not_done : (due result : Status) → (due ≡ status.Done → ⊥) → (result ≡ due) ⊎ (result ≡ status.WriteFault) → result ≡ status.Done → ⊥
@@ -114,7 +107,7 @@ usage_not_done e = cc
 
 element_by : (words : List (List ℕ)) (given page : List ℕ) (o : Outcome) (result : Status)
     → IsFound words given page o → (result ≡ status_of o) ⊎ (result ≡ status.WriteFault) → result ≡ status.Done → HasElement given page
-element_by words given page (Page corners faces) result found ends done = (found.1.0, found.1.1, found.1.2, found.1.3, found.1.4)
+element_by words given page (Page corners faces) result found ends done = (found.1.0, found.1.1, found.1.2, found.1.3, found.1.4, found.1.5)
 element_by words given page (NotBuilt place) result found ends done = absurd (not_done status.FileRefused result refused_not_done ends done)
 element_by words given page TooLarge result found ends done = absurd (not_done status.FileRefused result refused_not_done ends done)
 element_by words given page ReadFault result found ends done = absurd (not_done status.ReadFault result unread_not_done ends done)

@@ -1,7 +1,9 @@
 -- One piece more of a text that is made of pieces.
-use Rattle.std.proofs.Common.{◌≡◌, ℕ, suc, ◌+◌, ◌<◌, List, [], ◌∷◌, ◌++◌, length, drop, get_or, map, refl, sym, ap, ◌∙◌, append_assoc, append-nil, add-one}
+use Rattle.std.proofs.Common.{◌≡◌, ℕ, suc, ◌+◌, ◌<◌, List, [], ◌∷◌, ◌++◌, length, drop, get_or, map, refl, sym, ap, ◌∙◌, append_assoc, append-nil, add-one, ℤ, min, arith, Result, Ok, Err, OnOk}
 use Rattle.std.proofs.Math.Seq.{drop-cons}
 use Rattle.std.specs.List.{flat_map}
+use Rattle.plane_core.specs.declared.numbers.Corner.{Corner}
+use Rattle.plain_engine.specs.Prints.{page_corners}
 
 pub piece_more : {X : Type 0} (f : X → List ℕ) (xs : List X) (i : ℕ) (d : X) (text grown all : List ℕ) → i < length xs
     → grown ≡ text ++ f (get_or xs i d) → text ++ flat_map f (drop i xs) ≡ all → grown ++ flat_map f (drop (i + 1) xs) ≡ all
@@ -35,3 +37,14 @@ page_joined old p q r s head top body end first second third fourth =
 pub flat_map-map : {X Y : Type 0} (f : Y → List ℕ) (g : X → Y) (xs : List X) → flat_map f (map g xs) ≡ flat_map (λ x. f (g x)) xs
 flat_map-map f g [] = refl
 flat_map-map f g (x ∷ xs) = ap (λ l. f (g x) ++ l) (flat_map-map f g xs)
+
+-- as many corners of a page as there are exact and printed ones
+pub length-page_corners : (cs : List Corner) (vs : List (List ℤ)) → length (page_corners cs vs) ≡ min (length cs) (length vs)
+length-page_corners [] vs = sym (omega arith)
+length-page_corners (c ∷ cs) [] = sym (omega arith)
+length-page_corners (c ∷ cs) (v ∷ vs) = let rest = length-page_corners cs vs in omega (arith, rest)
+
+-- what follows from a fact for the answer `Ok`
+pub on_ok : {A E : Type 0} (r : Result A E) {P Q : Type 0} → (P → Q) → OnOk r P → OnOk r Q
+on_ok (Ok x) f p = f p
+on_ok (Err e) f p = tt

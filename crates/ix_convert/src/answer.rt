@@ -1,48 +1,60 @@
-ghost use Rattle.std.specs.Prelude.{◌≡◌, ◌≢◌, ◌≤◌, ◌⊎◌, [], length, map, true, false, IfSome, string_bytes};
+ghost use Rattle.std.specs.Prelude.{◌≡◌, ◌≢◌, ◌≤◌, ◌⊎◌, [], length, map, true, false, IfOk, IfSome, string_bytes};
 ghost use Rattle.spec_outside.specs.Causes.{Rose};
+ghost use Rattle.spec_step.specs.Sound.{AreLines};
+ghost use Rattle.spec_headline.specs.Headline.{IsPrintOf};
+ghost use Rattle.spec_run.specs.Walls.{wall_body};
 ghost use Rattle.spec_run.specs.Words.{names_convert};
 ghost use Rattle.spec_run.specs.Inputs.{most_bytes};
 ghost use Rattle.spec_run.specs.Runs.{IsFoundIn, IsFound, IsPage};
-ghost use Rattle.box_mesh.specs.Meshes.{corners_of, faces_of};
+ghost use Rattle.plain_engine.specs.Prints.{element_of};
 
-use crate::extents::box_bounds;
 use crate::job::Job;
 use crate::page::put_page;
-use box_mesh::{BoxMesh, make_mesh};
+use box_lines::solid_of_lines;
 use ix_outside::{Source, TakeFault, read_whole};
+use plain_engine::{PrintedMesh, make_mesh};
 use spec_run::Outcome;
 use std::alloc::{AllocError, Global};
-use step_text::{PlainFault, plain_file};
+use step_text::{WideFault, WidePlain, wide_file};
 
 /// The greatest number of bytes that are read.
 const MOST_BYTES: usize = 1 << 27;
 
 /// How many corners and faces a mesh has.
-fn counts(mesh: &Option<BoxMesh>) -> (usize, usize)
-    ensures corners { result.0 ≡ length (corners_of mesh.now) }
-    ensures faces { result.1 ≡ length (faces_of mesh.now) }
+fn counts(mesh: &PrintedMesh) -> (usize, usize)
+    ensures corners { result.0 ≡ length (element_of mesh.now).corners }
+    ensures faces { result.1 ≡ length (element_of mesh.now).faces }
 {
-    match mesh {
-        None => (0, 0),
-        Some(mesh) => (mesh.corners.as_slice().len(), mesh.faces.as_slice().len()),
-    }
+    (
+        mesh.mesh.corners.len().min(mesh.printed.len()),
+        mesh.mesh.faces.len(),
+    )
+}
+
+/// The mesh of the wall of a file that keeps the rules. The error is want of memory.
+fn wall_mesh(alloc: Global, source: &[u8], plain: &WidePlain) -> Result<PrintedMesh, AllocError>
+    requires { AreLines source.now plain.now.lines.items plain.now.item }
+    ensures { IfOk result (λ mesh. IsPrintOf (wall_body source.now plain.now.lines.items plain.now.item) 1000 (element_of mesh)) }
+{
+    let solid = solid_of_lines(alloc, source, &plain.lines, plain.item)?;
+    make_mesh(alloc, &solid)
 }
 
 /// Builds the page of an input.
-fn convert(source: &[u8], page: &mut Vec<u8>) -> Outcome
+fn convert(alloc: Global, source: &[u8], page: &mut Vec<u8>) -> Outcome
     requires small { length source.now ≤ most_bytes }
     requires empty { page.old.items ≡ [] }
     ensures found { IsFoundIn source.now page.new.items result }
     ensures calm { result ≢ Outcome.ReadFault }
     ensures blank { (IsPage result ⊎ (result ≡ Outcome.NoMemory)) ⊎ (page.new.items ≡ []) }
 {
-    let plain = match plain_file(source) {
+    let plain = match wide_file(alloc, source) {
         Ok(plain) => plain,
-        Err(PlainFault { at }) => return Outcome::NotBuilt { at },
+        Err(WideFault::NotBuilt { at }) => return Outcome::NotBuilt { at },
+        Err(WideFault::NoMemory) => return Outcome::NoMemory,
     };
-    let mesh = match box_bounds(source, &plain) {
-        Ok(bounds) => make_mesh(&bounds),
-        Err(at) => return Outcome::NotBuilt { at },
+    let Ok(mesh) = wall_mesh(alloc, source, &plain) else {
+        return Outcome::NoMemory;
     };
     let (corners, faces) = counts(&mesh);
     match put_page(page, &mesh) {
@@ -62,7 +74,7 @@ fn convert_source<S: Source>(alloc: Global, src: &mut S, page: &mut Vec<u8>) -> 
     ensures blank { (IsPage result ⊎ (result ≡ Outcome.NoMemory)) ⊎ (page.new.items ≡ []) }
 {
     match read_whole(alloc, src, MOST_BYTES) {
-        Ok(source) => convert(&source, page),
+        Ok(source) => convert(alloc, &source, page),
         Err(TakeFault::Fault) => Outcome::ReadFault,
         Err(TakeFault::TooLarge) => Outcome::TooLarge,
         Err(TakeFault::NoMemory) => Outcome::NoMemory,

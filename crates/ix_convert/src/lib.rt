@@ -2,7 +2,6 @@
 #![tactic(auto)]
 
 mod answer;
-mod extents;
 mod job;
 mod page;
 mod report;

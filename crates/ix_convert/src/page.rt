@@ -1,9 +1,12 @@
 ghost use Rattle.std.specs.Prelude.{◌≡◌, ℕ, ◌+◌, ◌<◌, ◌^◌, ◌++◌, [], ◌∷◌, OnOk, codes};
 ghost use Rattle.std.specs.List.{flat_map};
 ghost use Rattle.spec_page.specs.Page.{spaced, spaced_three, spaced_vector, spaced_metres, six_digits, size_in_metres, metres, plane_line, frame_line, exact_line, printed_line, corner_lines, index_text, indices_line, face_lines, volume_line, number_line, element_body, page_text};
-ghost use Rattle.box_mesh.specs.Meshes.{face_of, element_of};
+ghost use Rattle.plane_core.specs.Views.{point_of};
+ghost use Rattle.exact_mesh.specs.Meshes.{plane_of, vector_of, face_of};
+ghost use Rattle.plain_engine.specs.Prints.{page_corners, element_of};
 
-use box_mesh::{BoxMesh, Quad};
+use exact_mesh::MeshFace;
+use plain_engine::PrintedMesh;
 use spec_page::{Corner, Frame};
 use spec_space::{Plane, Point, Vector};
 use std::alloc::AllocError;
@@ -126,20 +129,60 @@ fn put_corner(page: &mut Vec<u8>, corner: &Corner) -> Result<(), AllocError>
     put_printed(page, &corner.printed)
 }
 
-fn put_corners(page: &mut Vec<u8>, corners: &[Corner]) -> Result<(), AllocError>
-    ensures { OnOk result (page.new.items ≡ page.old.items ++ flat_map corner_lines corners.now) }
+fn plane(numbers: &[i128; 4]) -> Plane
+    ensures { result ≡ plane_of numbers.now }
 {
-    for corner in corners {
-        put_corner(page, corner)?;
+    let [a, b, c, d] = *numbers;
+    Plane { a, b, c, d }
+}
+
+fn vector(numbers: &[i128; 3]) -> Vector
+    ensures { result ≡ vector_of numbers.now }
+{
+    let [x, y, z] = *numbers;
+    Vector { x, y, z }
+}
+
+fn page_corner(corner: &plane_core::Corner, printed: &[i128; 3]) -> Corner
+    ensures { result ≡ record { exact = point_of corner.now; printed = vector_of printed.now } }
+{
+    Corner {
+        exact: Point {
+            x: corner.x,
+            y: corner.y,
+            z: corner.z,
+            w: corner.w,
+        },
+        printed: vector(printed),
+    }
+}
+
+/// Appends the exact corners with the printed ones.
+fn put_corners(
+    page: &mut Vec<u8>,
+    corners: &[plane_core::Corner],
+    printed: &[[i128; 3]],
+) -> Result<(), AllocError>
+    ensures { OnOk result (page.new.items ≡ page.old.items ++ flat_map corner_lines (page_corners corners.now printed.now)) }
+{
+    let mut corners = corners;
+    let mut printed = printed;
+    while let [corner, more @ ..] = corners {
+        let [place, places @ ..] = printed else {
+            return Ok(());
+        };
+        put_corner(page, &page_corner(corner, place))?;
+        corners = more;
+        printed = places;
     }
     Ok(())
 }
 
-fn put_edges(page: &mut Vec<u8>, edges: &[Plane]) -> Result<(), AllocError>
-    ensures { OnOk result (page.new.items ≡ page.old.items ++ flat_map (plane_line (codes "#e")) edges.now) }
+fn put_edges(page: &mut Vec<u8>, edges: &[[i128; 4]]) -> Result<(), AllocError>
+    ensures { OnOk result (page.new.items ≡ page.old.items ++ flat_map (λ e. plane_line (codes "#e") (plane_of e)) edges.now) }
 {
     for edge in edges {
-        put_plane(page, b"#e", edge)?;
+        put_plane(page, b"#e", &plane(edge))?;
     }
     Ok(())
 }
@@ -171,15 +214,15 @@ fn put_indices(page: &mut Vec<u8>, places: &[usize]) -> Result<(), AllocError>
     Ok(())
 }
 
-fn put_face(page: &mut Vec<u8>, face: &Quad) -> Result<(), AllocError>
+fn put_face(page: &mut Vec<u8>, face: &MeshFace) -> Result<(), AllocError>
     ensures { OnOk result (page.new.items ≡ page.old.items ++ face_lines 0 (face_of face.now)) }
 {
-    put_plane(page, b"#p", &face.plane)?;
+    put_plane(page, b"#p", &plane(&face.plane))?;
     put_edges(page, &face.edges)?;
     put_indices(page, &face.corners)
 }
 
-fn put_faces(page: &mut Vec<u8>, faces: &[Quad]) -> Result<(), AllocError>
+fn put_faces(page: &mut Vec<u8>, faces: &[MeshFace]) -> Result<(), AllocError>
     ensures { OnOk result (page.new.items ≡ page.old.items ++ flat_map (λ f. face_lines 0 (face_of f)) faces.now) }
 {
     for face in faces {
@@ -188,7 +231,17 @@ fn put_faces(page: &mut Vec<u8>, faces: &[Quad]) -> Result<(), AllocError>
     Ok(())
 }
 
-fn put_volume(page: &mut Vec<u8>, six: i128) -> Result<(), AllocError>
+/// Appends the sixfold volume, or that there is none.
+fn put_volume(page: &mut Vec<u8>, six: Option<i128>) -> Result<(), AllocError>
+    ensures { OnOk result (page.new.items ≡ page.old.items ++ volume_line six) }
+{
+    match six {
+        None => page.extend_from_slice(b"#vol6 none\n"),
+        Some(six) => put_sixfold(page, six),
+    }
+}
+
+fn put_sixfold(page: &mut Vec<u8>, six: i128) -> Result<(), AllocError>
     ensures { OnOk result (page.new.items ≡ page.old.items ++ volume_line (Some six)) }
 {
     page.extend_from_slice(b"#vol6")?;
@@ -237,32 +290,21 @@ fn put_head(page: &mut Vec<u8>, number: u64, frame: &Frame) -> Result<(), AllocE
 }
 
 /// Appends the corners, the faces and the volume of a mesh.
-fn put_mesh(page: &mut Vec<u8>, mesh: &BoxMesh) -> Result<(), AllocError>
-    ensures { OnOk result (page.new.items ≡ page.old.items ++ element_body 0 (element_of (Some mesh.now))) }
-{
-    put_corners(page, &mesh.corners)?;
-    put_faces(page, &mesh.faces)?;
-    put_volume(page, mesh.six)?;
-    Ok(())
-}
-
-/// Appends the rest of the element's block.
-fn put_body(page: &mut Vec<u8>, mesh: &Option<BoxMesh>) -> Result<(), AllocError>
+fn put_mesh(page: &mut Vec<u8>, mesh: &PrintedMesh) -> Result<(), AllocError>
     ensures { OnOk result (page.new.items ≡ page.old.items ++ element_body 0 (element_of mesh.now)) }
 {
-    match mesh {
-        None => put_volume(page, 0),
-        Some(mesh) => put_mesh(page, mesh),
-    }
+    put_corners(page, &mesh.mesh.corners, &mesh.printed)?;
+    put_faces(page, &mesh.mesh.faces)?;
+    put_volume(page, mesh.six)
 }
 
 /// Appends the page of the element on the grid of 1000 micrometres.
-pub fn put_page(page: &mut Vec<u8>, mesh: &Option<BoxMesh>) -> Result<(), AllocError>
+pub fn put_page(page: &mut Vec<u8>, mesh: &PrintedMesh) -> Result<(), AllocError>
     ensures { OnOk result (page.new.items ≡ page.old.items ++ page_text 1000 (element_of mesh.now ∷ [])) }
 {
     put_number_line(page, b"# ifcexact 1\n# grid ", 1000)?;
     put_head(page, 13, &WORLD)?;
-    put_body(page, mesh)?;
+    put_mesh(page, mesh)?;
     page.extend_from_slice(b"# end\n")?;
     Ok(())
 }

@@ -1,10 +1,10 @@
 ghost use Rattle.std.specs.Prelude.{◌≡◌, ◌≢◌, ℕ, ◌<◌, ◌≤◌, ◌⊎◌, List, [], ◌∷◌, length, map, true, false, IfSome, IsOk, OnOk, OnErr, string_bytes};
 ghost use Rattle.std.specs.Io.KnownBytes.{Appends};
 ghost use Rattle.spec_outside.specs.Causes.{Rose, AppendsFront};
-ghost use Rattle.spec_step.specs.declared.Span.{Span};
+ghost use Rattle.spec_step.specs.declared.line.PlainLine.{PlainLine};
 ghost use Rattle.spec_run.specs.declared.Outcome.{Outcome};
 ghost use Rattle.spec_run.specs.Words.{names_convert};
-ghost use Rattle.spec_run.specs.Inputs.{most_bytes, IsNotBuilt, IsBox, IsElementOf};
+ghost use Rattle.spec_run.specs.Inputs.{most_bytes, IsNotBuilt, IsWall, IsElementOf};
 ghost use Rattle.spec_page.specs.Element.{Element};
 ghost use Rattle.spec_page.specs.Page.{page_text};
 ghost use Rattle.spec_run.specs.Reports.{report_of};
@@ -80,10 +80,10 @@ fn deliver<O: Sink, R: Sink>(
 /// needs it, builds the page and the report, puts the page to `out` and then the report to `rep`.
 ///
 /// The job that is built is `convert`: the source is the STEP text of a file of one wall that is
-/// a box, and the page is the OBJ text of its one element on a grid of 1000 micrometres. The
-/// answer is the first of these that comes: faulty words; a fault of the source, or more than 2^27
-/// bytes; another form than is built, at its place; a number out of its bounds, at its place; the
-/// page. Want of memory may come before anything is written, and a fault of `out` or of `rep`
+/// made of blocks and prisms by unions and differences, and the page is the OBJ text of its one
+/// element on a grid of 1000 micrometres. The answer is the first of these that comes: faulty words;
+/// a fault of the source, or more than 2^27 bytes; another form than is built, at its place; a rule
+/// on the lines that is broken, at its place; the page. Want of memory may come before anything is written, and a fault of `out` or of `rep`
 /// takes the place of any other answer.
 pub fn convert_run<S: Source, O: Sink, R: Sink>(
     alloc: Global,
@@ -106,7 +106,7 @@ pub fn convert_run<S: Source, O: Sink, R: Sink>(
     ensures not_built { names_convert (map string_bytes words.now) ≡ true → IfSome (S.left src.old) (λ given.
         (at : ℕ) → IsNotBuilt given at → Yields result Status.FileRefused) }
     ensures built { names_convert (map string_bytes words.now) ≡ true → IfSome (S.left src.old) (λ given.
-        (numbers : List Span) → IsBox given numbers → Yields result Status.Done) }
+        (lines : List PlainLine) (item : ℕ) → IsWall given lines item → Yields result Status.Done) }
 
     // Each status has its cause in the input, with the page and the report that belong to it.
     ensures found { IfSome (S.left src.old) (λ given. (o : Outcome) × IsFound (map string_bytes words.now) given page.new.items o
@@ -115,8 +115,8 @@ pub fn convert_run<S: Source, O: Sink, R: Sink>(
         × IsWritten o result (O.held out.old) (O.held out.new) page.new.items (R.held rep.old) (R.held rep.new) }
 
     // A page that is done is the text of the file's element, with all that is promised of it.
-    ensures headline { result ≡ Status.Done → IfSome (S.left src.old) (λ given. (numbers : List Span) × (e : Element)
-        × IsBox given numbers × IsElementOf given numbers e × (page.new.items ≡ page_text 1000 (e ∷ []))) }
+    ensures headline { result ≡ Status.Done → IfSome (S.left src.old) (λ given. (lines : List PlainLine) × (item : ℕ) × (e : Element)
+        × IsWall given lines item × IsElementOf given lines item e × (page.new.items ≡ page_text 1000 (e ∷ []))) }
 
     // Faults of the source and of the sinks.
     ensures read_fault { result ≡ Status.ReadFault → Rose (S.faults src.old) (S.faults src.new) }

@@ -16,6 +16,19 @@ const BEHIND: &[u8] = b",1000.);
 #10=IFCEXTRUDEDAREASOLID(#9,$,#8,1000.);#11=IFCSHAPEREPRESENTATION(#5,'Body','SweptSolid',(#10));
 #12=IFCPRODUCTDEFINITIONSHAPE($,$,(#11));#13=IFCWALL('2',$,'w',$,$,#7,#12,$,$);ENDSEC;END-ISO-10303-21;";
 
+const BEFORE_LINES: usize = WALL.len() - b"#9=IFCRECTANGLEPROFILEDEF(.AREA.,$,$,".len();
+
+const SHAPE: &[u8] = b"#11=IFCSHAPEREPRESENTATION(#5,'Body','SweptSolid',(#30));
+#12=IFCPRODUCTDEFINITIONSHAPE($,$,(#11));#13=IFCWALL('2',$,'w',$,$,#7,#12,$,$);ENDSEC;END-ISO-10303-21;";
+
+/// A file of one wall that is the solid of #30 of these lines.
+fn combined(alloc: Global, lines: &[u8]) -> Result<Vec<u8>, AllocError> {
+    let mut file = Vec::from_slice(alloc, &WALL[..BEFORE_LINES])?;
+    file.extend_from_slice(lines)?;
+    file.extend_from_slice(SHAPE)?;
+    Ok(file)
+}
+
 /// A file of one wall with this width.
 fn wall(alloc: Global, width: &[u8]) -> Result<Vec<u8>, AllocError> {
     let mut file = Vec::from_slice(alloc, WALL)?;
@@ -128,6 +141,41 @@ fn rounds_extents_to_the_grid(rt: HostRuntime) -> Result<(), Fail> {
             .as_slice()
             .ends_with(b"\n#vol6 6000000000000000\n# end\n")
     );
+    Ok(())
+}
+
+#[test]
+fn converts_combined_solids(rt: HostRuntime) -> Result<(), Fail> {
+    let cases = [
+        (
+            b"#20=IFCBLOCK(#4,1000.,1000.,1000.);#30=IFCBOOLEANRESULT(.DIFFERENCE.,#20,#20);".as_slice(),
+            b"\n#vol6 0\n# end\n".as_slice(),
+        ),
+        (
+            b"#20=IFCCARTESIANPOINT((1000.,0.,0.));#21=IFCAXIS2PLACEMENT3D(#20,$,$);#22=IFCBLOCK(#4,1000.,1000.,1000.);#23=IFCBLOCK(#21,1000.,1000.,1000.);#30=IFCBOOLEANRESULT(.UNION.,#22,#23);".as_slice(),
+            b"\n#vol6 12000000000000000000\n# end\n".as_slice(),
+        ),
+        (
+            b"#20=IFCCARTESIANPOINT((250.,250.,-50.));#21=IFCAXIS2PLACEMENT3D(#20,$,$);#22=IFCBLOCK(#4,1000.,1000.,1000.);#23=IFCBLOCK(#21,500.,500.,1100.);#30=IFCBOOLEANRESULT(.DIFFERENCE.,#22,#23);".as_slice(),
+            b"\n#vol6 4500000000000000000\n# end\n".as_slice(),
+        ),
+        (
+            b"#30=IFCBLOCK(#4,0.4,1000.,1000.);".as_slice(),
+            b"\n#vol6 0\n# end\n".as_slice(),
+        ),
+    ];
+    for (lines, end) in cases {
+        let file = combined(rt.alloc(), lines)?;
+        let left = run(
+            rt.alloc(),
+            &["convert"],
+            &mut MemSource::new(file),
+            40_000,
+            200,
+        )?;
+        assert_eq!(rt; left.status, Status::Done);
+        assert!(rt; left.page.as_slice().ends_with(end));
+    }
     Ok(())
 }
 

@@ -1,17 +1,17 @@
 -- What a run finds: each outcome with its cause, and with the page that it leaves.
 use Rattle.std.specs.Prelude.{◌≡◌, ℕ, ◌<◌, true, false, List, [], ◌∷◌, length}
-use Rattle.spec_step.specs.declared.Span.{Span}
+use Rattle.spec_step.specs.declared.line.PlainLine.{PlainLine}
 use Rattle.spec_page.specs.Element.{Element}
 use Rattle.spec_page.specs.Page.{page_text}
 use Rattle.spec_run.specs.Words.{names_convert}
-use Rattle.spec_run.specs.Inputs.{most_bytes, IsNotBuilt, IsBox, IsElementOf}
+use Rattle.spec_run.specs.Inputs.{most_bytes, IsNotBuilt, IsWall, IsElementOf}
 use Rattle.spec_run.specs.declared.Outcome.{Outcome}
 use Rattle.spec_run.specs.declared.Outcome.TheVariants.{Page, NotBuilt, TooLarge, ReadFault, NoMemory, Usage}
 
 -- the page is the text of one printed element, that of the file's wall, with so many corners and faces
 abbrev pub IsPageOf : List ℕ → List ℕ → ℕ → ℕ → Type 0
 IsPageOf given page corners faces =
-    (numbers : List Span) × (e : Element) × IsBox given numbers × IsElementOf given numbers e
+    (lines : List PlainLine) × (item : ℕ) × (e : Element) × IsWall given lines item × IsElementOf given lines item e
     × (page ≡ page_text 1000 (e ∷ [])) × (corners ≡ length e.corners) × (faces ≡ length e.faces)
 
 -- in the bytes of an input this is found, and this page is left

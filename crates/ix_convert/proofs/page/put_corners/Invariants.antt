@@ -1,8 +1,13 @@
-use Rattle.std.proofs.Common.{◌≡◌, ◌++◌, drop, codes}
+use Rattle.std.proofs.Common.{◌≡◌, ◌++◌, length}
 use Rattle.std.specs.List.{flat_map}
 use Rattle.spec_page.specs.Page.{corner_lines}
+use Rattle.plain_engine.specs.Prints.{page_corners}
 use Rattle.ix_convert.proofs.page.put_corners.Given as goal
 
 -- what was put so far, with what is still to come, is the whole text
-abbrev pub invariant-loop-corner : goal.invariant-loop-corner
-invariant-loop-corner l = l.page.items ++ flat_map (corner_lines) (drop l.corner-index l.corners) ≡ l.fn.page.items ++ flat_map (corner_lines) l.corners
+abbrev pub invariant-loop-corners : goal.invariant-loop-corners
+invariant-loop-corners l =
+    l.page.items ++ flat_map corner_lines (page_corners l.corners l.printed) ≡ l.fn.page.items ++ flat_map corner_lines (page_corners l.fn.corners l.fn.printed)
+
+abbrev pub decreases-loop-corners : goal.decreases-loop-corners
+decreases-loop-corners l = length l.corners

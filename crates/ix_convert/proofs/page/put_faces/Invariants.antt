@@ -1,7 +1,7 @@
 use Rattle.std.proofs.Common.{◌≡◌, ◌++◌, drop, codes}
 use Rattle.std.specs.List.{flat_map}
 use Rattle.spec_page.specs.Page.{face_lines}
-use Rattle.box_mesh.specs.Meshes.{face_of}
+use Rattle.exact_mesh.specs.Meshes.{face_of}
 use Rattle.ix_convert.proofs.page.put_faces.Given as goal
 
 -- what was put so far, with what is still to come, is the whole text

@@ -1,14 +1,25 @@
-use Rattle.std.proofs.Common.{FitsSigned, ◌++◌, ◌∙◌, ap, sym, arith}
-use Rattle.std.proofs.lemmas.Int.{to_z-of_z, ints}
-use mir.Syntax.{w128}
-use Rattle.spec_page.specs.Page.{face_lines}
-use Rattle.box_mesh.specs.Meshes.{face_of}
-use Rattle.ix_convert.proofs.Texts.{joined_three, flat_map-map}
+use Rattle.std.proofs.Common.{◌≡◌, ◌++◌, ◌∙◌, ap, sym, map}
+use Rattle.std.specs.List.{flat_map}
+use Rattle.spec_page.specs.Page.{corner_lines, face_lines, volume_line}
+use Rattle.exact_mesh.specs.Meshes.{face_of}
+use Rattle.plain_engine.specs.Prints.{page_corners}
+use Rattle.ix_convert.proofs.Texts.{joined_three, flat_map-map, on_ok}
 use Rattle.ix_convert.proofs.page.put_mesh.Goals as goal
 
 pub returns : goal.returns
 returns c =
-    let six : FitsSigned w128 c.args.mesh.now.six = omega (arith, ints) in
-    joined_three _ _ _ _ _ _ _ c.in_ok-put_corners.ensures
-    (c.in_ok-put_faces.ensures ∙ ap (λ l. c.put_corners.new.page.items ++ l) (sym (flat_map-map (face_lines 0) face_of c.args.mesh.now.faces)))
-    (simp to_z-of_z at c.in_ok-put_volume.ensures)
+    let old = c.args.page.now.items in
+    let first = c.put_corners.new.page.items in
+    let second = c.put_faces.new.page.items in
+    let mesh = c.args.mesh.now in
+    let corners = page_corners mesh.mesh.corners.items mesh.printed.items in
+    let faces = mesh.mesh.faces.items in
+    let corners_put : first ≡ old ++ flat_map corner_lines corners =
+    c.in_ok-put_corners.ensures ∙ (λ i. old ++ flat_map corner_lines (page_corners (c.deref.ensures.value i) (c.deref-2.ensures.value i))) in
+    let faces_put : second ≡ first ++ flat_map (face_lines 0) (map face_of faces) =
+    c.in_ok-put_faces.ensures ∙ ap (λ l. first ++ flat_map (λ f. face_lines 0 (face_of f)) l) c.deref-3.ensures.value
+    ∙ ap (λ l. first ++ l) (sym (flat_map-map (face_lines 0) face_of faces)) in
+    on_ok c.put_volume.result
+    (λ e. joined_three old first second c.put_volume.new.page.items (flat_map corner_lines corners) (flat_map (face_lines 0) (map face_of faces)) (volume_line mesh.six)
+    corners_put faces_put e)
+    c.put_volume.ensures

@@ -3,4 +3,4 @@ use Rattle.ix_convert.proofs.page.put_page.Goals as goal
 
 pub returns : goal.returns
 returns c =
-    page_joined _ _ _ _ _ _ _ _ _ c.in_ok-put_number_line.ensures c.in_ok-put_head.ensures c.in_ok-put_body.ensures c.in_ok-extend_from_slice.ensures.items
+    page_joined _ _ _ _ _ _ _ _ _ c.in_ok-put_number_line.ensures c.in_ok-put_head.ensures c.in_ok-put_mesh.ensures c.in_ok-extend_from_slice.ensures.items
