@@ -1,0 +1,9 @@
+//! The pieces into which the planes of a book cut one of them.
+#![tactic(auto)]
+
+mod cuts;
+mod sides;
+mod whole;
+
+pub use sides::Piece;
+pub use whole::pieces_on;
