@@ -1,0 +1,13 @@
+use Rattle.std.proofs.Common.{◌≡◌, take}
+use Rattle.piece_mesh.specs.Builders.{corners_of, AreDistinct, IsGrown, AreFresh}
+use Rattle.piece_mesh.specs.Pieces.{AreAt}
+use Rattle.piece_mesh.proofs.builder.MeshBuilder.places.Given as goal
+
+abbrev pub invariant-loop-corner : goal.invariant-loop-corner
+invariant-loop-corner l = record {
+  at : AreAt (corners_of l.self) l.places.items (take l.corner-index l.around);
+  grown : IsGrown (corners_of l.fn.self) (corners_of l.self);
+  fresh : AreFresh (corners_of l.fn.self) (corners_of l.self) l.places.items;
+  distinct : AreDistinct (corners_of l.fn.self) → AreDistinct (corners_of l.self);
+  faces : l.self.faces ≡ l.fn.self.faces;
+}
