@@ -1,0 +1,12 @@
+pub mod Grid
+pub mod Listed
+pub mod Meaning
+pub mod WallPlanes
+pub mod Neighbours
+pub mod Outside
+pub mod Reduced
+pub mod Numbers
+pub mod Additions
+pub mod BookLaws
+pub mod SmallPlanes
+pub mod Searches

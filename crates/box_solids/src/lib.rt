@@ -1,0 +1,11 @@
+//! Solids of boxes: which planes they have, and what their meaning is on each side of these planes.
+#![tactic(auto)]
+
+mod planes;
+mod sides;
+mod solids;
+mod walls;
+
+pub use planes::{add_planes, plane_book};
+pub use sides::told;
+pub use solids::{BoxSolid, Operator};

@@ -1,0 +1,110 @@
+ghost use Rattle.std.specs.Prelude.{◌≡◌, ◌^◌, ◌≤◌, ◌<◌, ◌+◌, ◌&&◌, ℕ, length, slice_get, Some, Bool, not};
+ghost use Rattle.spec_space.specs.declared.Plane.{Plane};
+ghost use Rattle.spec_solid.specs.Solids.{truth};
+ghost use Rattle.plane_core.specs.Views.{plane_of};
+ghost use Rattle.plane_core.specs.declared.numbers.Plane.{Plane as BookPlane};
+ghost use Rattle.box_solids.specs.Trees.{Leaf, is_plane, told_by};
+ghost use Rattle.box_solids.specs.Views.{operator_of, tree_of};
+ghost use Rattle.box_solids.specs.Books.{HasNumber, HasWalls, AreFlagsOf};
+
+use crate::solids::{BoxSolid, Operator};
+use crate::walls::{has_walls, x_plane, y_plane, z_plane};
+use box_mesh::Bounds;
+use plane_core::{PlaneBook, PlaneId};
+use spec_space::Plane;
+
+/// Whether a plane of a book has the four numbers.
+fn has_numbers(plane: &plane_core::Plane, numbers: &Plane) -> bool
+    ensures { result ≡ is_plane (plane_of plane.now) numbers.now }
+{
+    plane.a == numbers.a
+        && plane.b == numbers.b
+        && plane.c == numbers.c
+        && plane.d == numbers.d
+}
+
+/// The number of a plane that the book has after the walls of the cube.
+fn number_of(book: &PlaneBook, plane: &Plane) -> usize
+    requires known { HasNumber book.now plane.now }
+    requires size { length book.now ≤ 2 ^ 32 }
+    ensures given { (6 ≤ result) × (result < length book.now) }
+    ensures plane { (p : BookPlane) → slice_get book.now result ≡ Some p → plane_of p ≡ plane.now }
+{
+    for k in 6..book.count() {
+        if has_numbers(book.plane(PlaneId { k: k as u32 }), plane) {
+            return k;
+        }
+    }
+    unreachable!()
+}
+
+/// Whether the point lies in front of the plane.
+fn is_in_front(book: &PlaneBook, plane: &Plane, in_front: &[bool]) -> bool
+    requires known { HasNumber book.now plane.now }
+    requires size { length book.now ≤ 2 ^ 32 }
+    requires flags { length in_front.now + 6 ≡ length book.now }
+    ensures { (sides : Plane → Bool) → AreFlagsOf book.now sides in_front.now → result ≡ sides plane.now }
+{
+    in_front[number_of(book, plane) - 6]
+}
+
+/// Whether the point lies between two walls.
+fn is_between(book: &PlaneBook, low: &Plane, high: &Plane, in_front: &[bool]) -> bool
+    requires low { HasNumber book.now low.now }
+    requires high { HasNumber book.now high.now }
+    requires size { length book.now ≤ 2 ^ 32 }
+    requires flags { length in_front.now + 6 ≡ length book.now }
+    ensures { (sides : Plane → Bool) → AreFlagsOf book.now sides in_front.now → result ≡ (sides low.now && not (sides high.now)) }
+{
+    is_in_front(book, low, in_front) && !is_in_front(book, high, in_front)
+}
+
+/// Whether the point lies in the box.
+fn told_box(book: &PlaneBook, bounds: &Bounds, in_front: &[bool]) -> bool
+    requires known { HasWalls book.now (Leaf bounds.now) }
+    requires size { length book.now ≤ 2 ^ 32 }
+    requires flags { length in_front.now + 6 ≡ length book.now }
+    ensures { (sides : Plane → Bool) → AreFlagsOf book.now sides in_front.now → result ≡ told_by sides (Leaf bounds.now) }
+{
+    if !has_walls(bounds) {
+        return false;
+    }
+    let Bounds { low, high } = *bounds;
+    let in_x = is_between(book, &x_plane(low.x), &x_plane(high.x), in_front);
+    let in_y = is_between(book, &y_plane(low.y), &y_plane(high.y), in_front);
+    let in_z = is_between(book, &z_plane(low.z), &z_plane(high.z), in_front);
+    in_x && in_y && in_z
+}
+
+/// Whether the operator's solid has a point, by whether the two that it combines have it.
+fn truth(operator: Operator, first: bool, second: bool) -> bool
+    ensures { result ≡ truth (operator_of operator) first second }
+{
+    match operator {
+        Operator::Union => first || second,
+        Operator::Difference => first && !second,
+    }
+}
+
+/// The meaning of the solid at a point, told by the sides of the planes on which the point lies: `in_front[k - 6]` says that
+/// it lies in front of the plane of number k in the book, which has all walls of the boxes.
+#[tactic(auto, using(crate::proofs::BookLaws::walls_of_first, crate::proofs::BookLaws::walls_of_second))]
+pub fn told(book: &PlaneBook, solid: &BoxSolid, in_front: &[bool]) -> bool
+    requires known { HasWalls book.now (tree_of solid.now) }
+    requires size { length book.now ≤ 2 ^ 32 }
+    requires flags { length in_front.now + 6 ≡ length book.now }
+    ensures { (sides : Plane → Bool) → AreFlagsOf book.now sides in_front.now → result ≡ told_by sides (tree_of solid.now) }
+{
+    match solid {
+        BoxSolid::Box(bounds) => told_box(book, bounds, in_front),
+        BoxSolid::Combined {
+            operator,
+            first,
+            second,
+        } => {
+            let in_first = told(book, first.get(), in_front);
+            let in_second = told(book, second.get(), in_front);
+            truth(*operator, in_first, in_second)
+        }
+    }
+}
