@@ -1,10 +1,13 @@
 -- What adding planes to a book makes of it.
-use Rattle.std.proofs.Common.{◌≡◌, ◌≢◌, ℕ, zero, suc, ◌+◌, ◌<◌, ◌≤◌, ◌^◌, List, [], ◌∷◌, ◌++◌, length, slice_get, Option, Some, None, Contains, ◌⊎◌, inl, inr, refl, sym, ap, subst, ◌∙◌, arith, length-append, Result, Ok, Err, OnOk}
+use Rattle.std.proofs.Common.{◌≡◌, ◌≢◌, ℕ, zero, suc, ◌+◌, ◌<◌, ◌≤◌, ◌^◌, List, [], ◌∷◌, ◌++◌, length, slice_get, Option, Some, None, Contains, ◌⊎◌, inl, inr, refl, sym, ap, subst, ◌∙◌, arith, length-append, take, get_or}
+use Rattle.std.proofs.lemmas.List.{take_more}
 use Rattle.std.proofs.lemmas.Option.{slice_get_within, slice_get_past}
 use Rattle.std.proofs.lemmas.List.Elements.{Contains-append_left, Contains-append_right, Contains-append_cases}
 use Rattle.spec_space.specs.declared.Plane.{Plane}
 use Rattle.plane_core.specs.Planes.{IsReductionOf}
 use Rattle.plane_core.specs.declared.numbers.Plane.{Plane as BookPlane}
+use Rattle.spec_solid.specs.Solids.{Operator}
+use Rattle.box_solids.specs.Trees.{Tree, Joined, planes_of}
 use Rattle.box_solids.specs.Books.{IsKept, HasAdded}
 
 pub kept_itself : (ps : List BookPlane) → IsKept ps ps
@@ -113,3 +116,12 @@ added_one old new p k number is at known absent kept most = record {
 
     same : (n : ℕ) (q : BookPlane) → length old ≤ n → slice_get new n ≡ Some q → q ≡ p
     same n q past found = some_is q p (last_of old p q n past (ap (λ ps. slice_get ps n) (sym (absent (new_one n q past found))) ∙ found))
+
+-- one plane more of a list was added
+pub added_more : (old book new : List BookPlane) (ks : List Plane) (i : ℕ) (d : Plane) → i < length ks → HasAdded old (take i ks) book → HasAdded book (get_or ks i d ∷ []) new → HasAdded old (take (i + 1) ks) new
+added_more old book new ks i d h p q = subst (λ ls. HasAdded old ls new) (sym (take_more ks i d h)) (added_both old book new (take i ks) (get_or ks i d ∷ []) p q)
+
+-- the planes of both parts of a tree were added
+pub added_joined : (a b c : List BookPlane) (operator : Operator) (first second whole : Tree) → whole ≡ Joined operator first second
+    → HasAdded a (planes_of first) b → HasAdded b (planes_of second) c → HasAdded a (planes_of whole) c
+added_joined a b c operator first second whole e p q = subst (λ s. HasAdded a (planes_of s) c) (sym e) (added_both a b c (planes_of first) (planes_of second) p q)

@@ -10,3 +10,4 @@ pub mod Additions
 pub mod BookLaws
 pub mod SmallPlanes
 pub mod Searches
+pub mod Folds

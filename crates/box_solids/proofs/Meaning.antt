@@ -60,7 +60,7 @@ between_told in_front q low high c k l p r e f = ap₂ (λ s t. s && t)
     (below_high (high *ℤ q.w) c (value l q) f r.off ∙ ap not r.tells)
 
 -- ---- a box
-three_same : {a b c d e f : Bool} → a ≡ d → b ≡ e → c ≡ f → (a && (b && c)) ≡ (d && (e && f))
+pub three_same : {a b c d e f : Bool} → a ≡ d → b ≡ e → c ≡ f → (a && (b && c)) ≡ (d && (e && f))
 three_same p q r = λ i. p i && (q i && r i)
 
 between_walls : (b : Bounds) (in_front : Plane → Bool) (q : Point) → ((k : Plane) → Contains (six_walls b) k → Tells in_front q k)

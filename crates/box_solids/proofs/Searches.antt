@@ -67,3 +67,7 @@ has_six book b e known =
       bottom = walls (z_plane b.low.z) (4, omega arith, refl);
       top = walls (z_plane b.high.z) (5, omega arith, refl);
     }
+
+-- a test of two walls, where these are equal to others
+pub between_same : (sides : Plane → Bool) {r : Bool} {k l m n : Plane} → r ≡ (sides k && not (sides l)) → k ≡ m → l ≡ n → r ≡ (sides m && not (sides n))
+between_same sides e p q = e ∙ (λ i. sides (p i) && not (sides (q i)))

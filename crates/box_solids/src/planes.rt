@@ -61,7 +61,7 @@ fn add_box(book: &mut PlaneBook, bounds: &Bounds) -> Result<(), AllocError>
 /// Adds the planes of a solid of boxes to a book, each once: the walls of its boxes, and the upright plane through the
 /// diagonals of each box, along which its bottom and its top are cut into triangles. A box that is flat along x or y has
 /// none. The error is want of memory, and then some of the planes were added.
-#[tactic(auto, using(crate::proofs::Additions::added_both, crate::proofs::Additions::kept_further))]
+#[tactic(auto, using(crate::proofs::Additions::kept_further))]
 pub fn add_planes(book: &mut PlaneBook, solid: &BoxSolid) -> Result<(), AllocError>
     requires room { length book.old + length (planes_of (tree_of solid.now)) ≤ 2 ^ 31 }
     ensures added { OnOk result (HasAdded book.old (planes_of (tree_of solid.now)) book.new) }
@@ -71,7 +71,8 @@ pub fn add_planes(book: &mut PlaneBook, solid: &BoxSolid) -> Result<(), AllocErr
         BoxSolid::Box(bounds) => add_box(book, bounds),
         BoxSolid::Combined { first, second, .. } => {
             add_planes(book, first.get())?;
-            add_planes(book, second.get())
+            add_planes(book, second.get())?;
+            Ok(())
         }
     }
 }

@@ -59,6 +59,13 @@ fn is_between(book: &PlaneBook, low: &Plane, high: &Plane, in_front: &[bool]) ->
     is_in_front(book, low, in_front) && !is_in_front(book, high, in_front)
 }
 
+/// Whether all three hold.
+fn are_all(x: bool, y: bool, z: bool) -> bool
+    ensures { result ≡ (x && (y && z)) }
+{
+    x && y && z
+}
+
 /// Whether the point lies in the box.
 fn told_box(book: &PlaneBook, bounds: &Bounds, in_front: &[bool]) -> bool
     requires known { HasWalls book.now (Leaf bounds.now) }
@@ -73,7 +80,7 @@ fn told_box(book: &PlaneBook, bounds: &Bounds, in_front: &[bool]) -> bool
     let in_x = is_between(book, &x_plane(low.x), &x_plane(high.x), in_front);
     let in_y = is_between(book, &y_plane(low.y), &y_plane(high.y), in_front);
     let in_z = is_between(book, &z_plane(low.z), &z_plane(high.z), in_front);
-    in_x && in_y && in_z
+    are_all(in_x, in_y, in_z)
 }
 
 /// Whether the operator's solid has a point, by whether the two that it combines have it.
