@@ -1,0 +1,5 @@
+pub mod Flags
+pub mod Bounds
+pub mod Boundaries
+pub mod Planes
+pub mod Printing
