@@ -6,6 +6,5 @@ mod faces;
 mod meanings;
 mod mesh;
 mod prints;
-mod stub;
 
 pub use mesh::{PrintedMesh, make_mesh};

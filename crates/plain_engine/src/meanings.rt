@@ -8,8 +8,7 @@ ghost use Rattle.box_solids.specs.Views.{tree_of};
 ghost use Rattle.plane_pieces.specs.Pieces.{TellsSides};
 ghost use Rattle.plain_engine.specs.Meanings.{AreMeanings};
 
-use crate::stub::told;
-use box_solids::BoxSolid;
+use box_solids::{BoxSolid, told};
 use plane_core::PlaneBook;
 use plane_pieces::Piece;
 use std::alloc::{AllocError, Global};

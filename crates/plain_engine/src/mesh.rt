@@ -6,8 +6,7 @@ ghost use Rattle.plain_engine.specs.Prints.{element_of};
 
 use crate::faces::exact;
 use crate::prints::print_corners;
-use crate::stub::plane_book;
-use box_solids::BoxSolid;
+use box_solids::{BoxSolid, plane_book};
 use exact_mesh::{ExactMesh, sixfold};
 use std::alloc::{AllocError, Global};
 

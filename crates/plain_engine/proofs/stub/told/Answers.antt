@@ -1,4 +1,0 @@
-use Rattle.plain_engine.proofs.stub.told.Goals as goal
-
-pub returns : goal.returns
-returns c = ?
