@@ -4,13 +4,13 @@ use Rattle.std.specs.Prelude.{if◌then◌else◌, option_map}
 use Rattle.std.specs.List.{All}
 use Rattle.std.proofs.lemmas.Int.{ints}
 use Rattle.std.proofs.lemmas.Option.{slice_get_within, slice_get-map, get_or_from_slice_get}
-use Rattle.std.proofs.lemmas.List.Elements.{All-nil, All-cons, All-append, All-contains, Contains-append_left, Contains-append_right}
+use Rattle.std.proofs.lemmas.List.Elements.{All-nil, All-cons, All-append, All-contains, Contains-append_left, Contains-append_right, Contains-append_cases}
 use Rattle.spec_space.specs.declared.Plane.{Plane}
 use Rattle.spec_space.specs.declared.Point.{Point}
 use Rattle.spec_space.specs.declared.Vector.{Vector}
-use Rattle.spec_space.specs.Points.{value}
+use Rattle.spec_space.specs.Points.{IsPoint, value}
+use Rattle.spec_solid.specs.Solids.{is_meant}
 use Rattle.spec_solid.specs.Planes.{upright_plane, IsTimes, IsPlaneOf}
-use Rattle.spec_solid.specs.Solids.{Operator}
 use Rattle.integer_laws.proofs.Ring.{var, con, neg, ◌⊕◌, ◌⊗◌, ◌⊖◌, ring}
 use Rattle.integer_laws.proofs.Products.{cancel_zero}
 use Rattle.plane_core.specs.Books.{x_plane, y_plane, z_plane, cube_walls}
@@ -21,9 +21,10 @@ use Rattle.plane_core.proofs.Laws.{reduced_is_reduced}
 use Rattle.box_mesh.specs.Ranges.{AreSteps}
 use Rattle.box_mesh.specs.declared.bounds.Bounds.{Bounds}
 use Rattle.box_mesh.proofs.Sides.{value_x, value_y, value_z}
-use Rattle.box_solids.specs.Trees.{Tree, Leaf, Joined, body_of, has_walls, six_walls, diagonal, walls_of, planes_of}
-use Rattle.box_solids.specs.Books.{ArePlanesOf, HasAdded, HasWalls}
+use Rattle.box_solids.specs.Trees.{Tree, Leaf, Joined, body_of, has_walls, six_walls, diagonal, walls_of, planes_of, told_by, is_in_front}
+use Rattle.box_solids.specs.Books.{ArePlanesOf, HasAdded, HasNumber, HasWalls, AreSidesOf}
 use Rattle.box_solids.proofs.Listed.{planes_of_body, book_planes_of_body}
+use Rattle.box_solids.proofs.Meaning.{meaning_told}
 use Rattle.box_solids.proofs.WallPlanes.{wall_is_plane}
 use Rattle.box_solids.proofs.Reduced.{one_reduction}
 use Rattle.box_solids.proofs.Numbers.{value_of_times}
@@ -147,12 +148,27 @@ book_of_element s old new walls six added = record {
     found h is (k, m, there, some, times) = numbered h is k m there some times (added.given k there)
 
 -- such a book has the walls of the boxes
+numbered_walls : (s : Tree) (book : List BookPlane) → ((k : Plane) → Contains (walls_of s) k → HasNumber book k) → HasWalls book s
+numbered_walls (Leaf b) book h = h
+numbered_walls (Joined operator first second) book h = (
+  numbered_walls first book (λ k there. h k (Contains-append_left (walls_of first) (walls_of second) k there)),
+  numbered_walls second book (λ k there. h k (Contains-append_right (walls_of first) (walls_of second) k there)),
+)
+
 pub planes_have_walls : (s : Tree) (book : List BookPlane) → ArePlanesOf (body_of s) book → HasWalls book s
-planes_have_walls s book planes k there = planes.all k (wall_is_plane s k there)
+planes_have_walls s book planes = numbered_walls s book (λ k there. planes.all k (wall_is_plane s k there))
 
--- a book with the walls of two trees has those of each
-pub walls_of_first : (book : List BookPlane) (operator : Operator) (first second : Tree) → HasWalls book (Joined operator first second) → HasWalls book first
-walls_of_first book operator first second h k there = h k (Contains-append_left (walls_of first) (walls_of second) k there)
+-- each wall of the boxes has a number in a book with all walls
+pub wall_has_number : (s : Tree) (book : List BookPlane) → HasWalls book s → (k : Plane) → Contains (walls_of s) k → HasNumber book k
+wall_has_number (Leaf b) book h k there = h k there
+wall_has_number (Joined operator first second) book h k there = elim (Contains-append_cases (walls_of first) (walls_of second) k there) [
+  | inl in_first ↦ wall_has_number first book h.0 k in_first
+  | inr in_second ↦ wall_has_number second book h.1 k in_second
+]
 
-pub walls_of_second : (book : List BookPlane) (operator : Operator) (first second : Tree) → HasWalls book (Joined operator first second) → HasWalls book second
-walls_of_second book operator first second h k there = h k (Contains-append_right (walls_of first) (walls_of second) k there)
+-- flags that are the sides of a point on none of the book's planes tell the meaning at the point
+pub sides_tell : (s : Tree) (book : List BookPlane) (q : Point) (flags : List Bool) → HasWalls book s → IsPoint q → AreSidesOf book q flags → told_by (is_in_front q) s ≡ is_meant (body_of s) q
+sides_tell s book q flags walls point sides = sym (meaning_told s q point (λ k there. off k (wall_has_number s book walls k there)))
+  where
+    off : (k : Plane) → HasNumber book k → value k q ≢ pos 0
+    off k (n, p, least, at, same) = subst (λ h. value h q ≢ pos 0) same (sides.off n p least at)

@@ -128,9 +128,13 @@ turned a b m q e f = twice a ∙ ap neg_ℤ (sym e ∙ f) ∙ ring (m ∷ (q ∷
 diagonal_covered : (ks : List Plane) (u v : Vector) → Contains ks (upright_plane u v) → IsCovered ks (upright_plane v u)
 diagonal_covered ks u v there h m r =
     let k = upright_plane u v in
-    let l = upright_plane v u in
-    (k, neg_ℤ m, there, negative_runs m r.runs,
-    (turned k.a l.a m h.a (swapped u.y v.y) r.times.0, turned k.b l.b m h.b (swapped_back u.x v.x) r.times.1, turned k.c l.c m h.c refl r.times.2, turned k.d l.d m h.d (swapped_d u.x u.y v.x v.y) r.times.3))
+    let l = upright_plane v u in (
+      k,
+      neg_ℤ m,
+      there,
+      negative_runs m r.runs,
+      (turned k.a l.a m h.a (swapped u.y v.y) r.times.0, turned k.b l.b m h.b (swapped_back u.x v.x) r.times.1, turned k.c l.c m h.c refl r.times.2, turned k.d l.d m h.d (swapped_d u.x u.y v.x v.y) r.times.3),
+    )
   where
     swapped : (a b : ℤ) → a -ℤ b ≡ neg_ℤ (b -ℤ a)
     swapped a b = omega (arith, ints)
@@ -278,8 +282,11 @@ pub planes_of_body : (s : Tree) (h : Plane) → IsPlaneOf (body_of s) h ↔ (IsR
 planes_of_body s h = (there, back)
   where
     there : IsPlaneOf (body_of s) h → IsReduced h × IsListed (planes_of s) h
-    there (r, l) = (r, covered_listed (planes_of s) (solid_planes (solid_of s)) h (to_listed s) r
-        (covered_listed (solid_planes (solid_of s)) ((solid_planes (solid_of s) ++ []) ++ []) h (alone_covered (solid_planes (solid_of s))) r l))
+    there (r, l) = (
+      r,
+      covered_listed (planes_of s) (solid_planes (solid_of s)) h (to_listed s) r
+          (covered_listed (solid_planes (solid_of s)) ((solid_planes (solid_of s) ++ []) ++ []) h (alone_covered (solid_planes (solid_of s))) r l),
+    )
 
     back : IsReduced h × IsListed (planes_of s) h → IsPlaneOf (body_of s) h
     back (r, l) = (r, alone_left (solid_planes (solid_of s)) h (covered_listed (solid_planes (solid_of s)) (planes_of s) h (from_listed s) r l))

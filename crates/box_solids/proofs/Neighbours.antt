@@ -178,7 +178,7 @@ module _ (s : Tree) (h : BookPlane) (p : Point) (positive : IsPoint p) (alone : 
           }
       by false e =
           let side = same_side (value k p) (value k (front_of (plane_of h) p)) (off_others k c (other_from_test k (plane_of h) e))
-              (shift_up (value k p) (dot (normal k) (normal (plane_of h))) (value k (front_of (plane_of h) p)) (wall_dot_small k h (is_wall s k c)) (front_value k (plane_of h) p)) in
+          (shift_up (value k p) (dot (normal k) (normal (plane_of h))) (value k (front_of (plane_of h) p)) (wall_dot_small k h (is_wall s k c)) (front_value k (plane_of h) p)) in
           record { tells = side.same ∙ sym (ap (λ t. if t then true else is_in_front p k) e); off = side.off }
 
   back_tells : (k : Plane) → Contains (walls_of s) k → Tells (is_in_front_across (plane_of h) false p) (back_of (plane_of h) p) k
@@ -194,7 +194,7 @@ module _ (s : Tree) (h : BookPlane) (p : Point) (positive : IsPoint p) (alone : 
           }
       by false e =
           let side = same_side (value k p) (value k (back_of (plane_of h) p)) (off_others k c (other_from_test k (plane_of h) e))
-              (shift_down (value k p) (dot (normal k) (normal (plane_of h))) (value k (back_of (plane_of h) p)) (wall_dot_small k h (is_wall s k c)) (back_value k (plane_of h) p)) in
+          (shift_down (value k p) (dot (normal k) (normal (plane_of h))) (value k (back_of (plane_of h) p)) (wall_dot_small k h (is_wall s k c)) (back_value k (plane_of h) p)) in
           record { tells = side.same ∙ sym (ap (λ t. if t then false else is_in_front p k) e); off = side.off }
 
   -- in front of the plane, the point's neighbour has the sides of the point, and is in front of the plane

@@ -1,4 +1,4 @@
-ghost use Rattle.std.specs.Prelude.{◌≡◌, ◌^◌, ◌≤◌, ◌<◌, ◌+◌, ◌∷◌, [], length, All, IfOk, OnOk};
+ghost use Rattle.std.specs.Prelude.{◌≡◌, ◌^◌, ◌≤◌, ◌∷◌, [], length, All, IfOk, OnOk};
 ghost use Rattle.box_solids.specs.Trees.{Leaf, body_of, planes_of};
 ghost use Rattle.box_solids.specs.Views.{tree_of};
 ghost use Rattle.plane_core.specs.Planes.{IsReductionOf};
@@ -10,6 +10,9 @@ use box_mesh::Bounds;
 use plane_core::PlaneBook;
 use spec_space::Plane;
 use std::alloc::{AllocError, Global};
+
+/// How many planes a book can have: with as many the memory counts as full.
+const MOST_PLANES: usize = 1 << 31;
 
 /// The plane, reduced.
 fn reduced(plane: &Plane) -> plane_core::Plane
@@ -24,21 +27,24 @@ fn reduced(plane: &Plane) -> plane_core::Plane
 
 /// Adds the reduced form of a plane to a book.
 fn add_plane(book: &mut PlaneBook, plane: &Plane) -> Result<(), AllocError>
-    requires room { length book.old < 2 ^ 31 }
     requires small { IsSmallPlane plane.now }
     ensures added { OnOk result (HasAdded book.old (plane.now ∷ []) book.new) }
     ensures kept { IsKept book.old book.new }
+    ensures size { length book.old ≤ 2 ^ 31 → length book.new ≤ 2 ^ 31 }
 {
+    if book.count() >= MOST_PLANES {
+        return Err(AllocError);
+    }
     book.add(reduced(plane))?;
     Ok(())
 }
 
 /// Adds the reduced forms of planes to a book.
 fn add_all(book: &mut PlaneBook, planes: &[Plane]) -> Result<(), AllocError>
-    requires room { length book.old + length planes.now ≤ 2 ^ 31 }
     requires small { All IsSmallPlane planes.now }
     ensures added { OnOk result (HasAdded book.old planes.now book.new) }
     ensures kept { IsKept book.old book.new }
+    ensures size { length book.old ≤ 2 ^ 31 → length book.new ≤ 2 ^ 31 }
 {
     for plane in planes {
         add_plane(book, plane)?;
@@ -48,9 +54,9 @@ fn add_all(book: &mut PlaneBook, planes: &[Plane]) -> Result<(), AllocError>
 
 /// Adds the planes of a box to a book.
 fn add_box(book: &mut PlaneBook, bounds: &Bounds) -> Result<(), AllocError>
-    requires room { length book.old + length (planes_of (Leaf bounds.now)) ≤ 2 ^ 31 }
     ensures added { OnOk result (HasAdded book.old (planes_of (Leaf bounds.now)) book.new) }
     ensures kept { IsKept book.old book.new }
+    ensures size { length book.old ≤ 2 ^ 31 → length book.new ≤ 2 ^ 31 }
 {
     if !has_walls(bounds) {
         return Ok(());
@@ -63,9 +69,9 @@ fn add_box(book: &mut PlaneBook, bounds: &Bounds) -> Result<(), AllocError>
 /// none. The error is want of memory, and then some of the planes were added.
 #[tactic(auto, using(crate::proofs::Additions::kept_further))]
 pub fn add_planes(book: &mut PlaneBook, solid: &BoxSolid) -> Result<(), AllocError>
-    requires room { length book.old + length (planes_of (tree_of solid.now)) ≤ 2 ^ 31 }
     ensures added { OnOk result (HasAdded book.old (planes_of (tree_of solid.now)) book.new) }
     ensures kept { IsKept book.old book.new }
+    ensures size { length book.old ≤ 2 ^ 31 → length book.new ≤ 2 ^ 31 }
 {
     match solid {
         BoxSolid::Box(bounds) => add_box(book, bounds),
@@ -81,7 +87,6 @@ pub fn add_planes(book: &mut PlaneBook, solid: &BoxSolid) -> Result<(), AllocErr
 /// memory.
 #[tactic(auto, using(crate::proofs::BookLaws::book_of_element))]
 pub fn plane_book(alloc: Global, solid: &BoxSolid) -> Result<PlaneBook, AllocError>
-    requires room { length (planes_of (tree_of solid.now)) ≤ 2 ^ 30 }
     ensures planes { IfOk result (ArePlanesOf (body_of (tree_of solid.now))) }
     ensures size { IfOk result (λ book. length book ≤ 2 ^ 31) }
 {
