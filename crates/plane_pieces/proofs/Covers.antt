@@ -1,18 +1,17 @@
 -- The pieces so far cover the plane's part of the enclosing cube.
-use Rattle.std.proofs.Common.{◌≡◌, ◌≢◌, ℕ, zero, suc, ◌+◌, ◌≤◌, ◌<◌, Bool, true, false, List, [], ◌∷◌, ◌++◌, length, slice_get, Some, None, ℤ, pos, All, refl, sym, ap, ◌∙◌, subst, arith}
+use Rattle.std.proofs.Common.{◌≡◌, ℕ, zero, suc, ◌+◌, ◌≤◌, ◌<◌, Bool, true, false, List, [], ◌∷◌, length, slice_get, Some, pos, All, refl, sym, ap, ◌∙◌, subst, arith}
 use Rattle.spec_space.specs.declared.Point.{Point}
 use Rattle.spec_space.specs.Points.{IsPoint, value}
 use Rattle.plane_core.specs.declared.numbers.Plane.{Plane as BookPlane}
 use Rattle.plane_core.specs.declared.book.PlaneId.{PlaneId}
 use Rattle.plane_core.specs.Views.{plane_of}
 use Rattle.plane_core.specs.Books.{AreDistinct, BeginsWithWalls}
-use Rattle.poly_frag.specs.Cubes.{IsInsideCube, HasAreaInCube, HoldsCubePoints}
-use Rattle.poly_frag.specs.Frags.{numbered, plane_at, support_of}
+use Rattle.poly_frag.specs.Cubes.{HasAreaInCube, HoldsCubePoints}
+use Rattle.poly_frag.specs.Frags.{numbered, plane_at}
 use Rattle.poly_frag.specs.Cycles.{IsFragment}
-use Rattle.poly_frag.specs.declared.frag.Frag.{Frag}
 use Rattle.poly_frag.proofs.Laws.{inside_cube}
 use Rattle.plane_pieces.specs.Points.{holds}
-use Rattle.plane_pieces.specs.Pieces.{TellsSide, IsPiece, IsOff, IsOffBelow, CoverPlane}
+use Rattle.plane_pieces.specs.Pieces.{IsPiece, IsOff, CoverPlane}
 use Rattle.plane_pieces.specs.declared.sides.Piece.{Piece}
 use Rattle.plane_pieces.proofs.Held.{no_flag, inside_from_held, held_from_inside}
 use Rattle.plane_pieces.proofs.Counts.{one, around, around_pushed}

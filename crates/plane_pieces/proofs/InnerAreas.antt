@@ -1,5 +1,5 @@
 -- A plane with a point strictly inside the enclosing cube has an area in the closed cube.
-use Rattle.std.proofs.Common.{◌≡◌, ◌≢◌, ◌⊎◌, inl, inr, ◌^◌, ◌≤◌, List, [], ◌∷◌, ℤ, pos, negsuc, neg_ℤ, ◌+ℤ◌, ◌-ℤ◌, ◌*ℤ◌, ◌<ℤ◌, ◌≤ℤ◌, unsigned_abs, refl, sym, ap, ◌∙◌, subst, arith}
+use Rattle.std.proofs.Common.{◌≡◌, ◌⊎◌, inl, inr, ◌^◌, ◌≤◌, [], ◌∷◌, ℤ, pos, negsuc, neg_ℤ, ◌+ℤ◌, ◌-ℤ◌, ◌*ℤ◌, ◌<ℤ◌, ◌≤ℤ◌, unsigned_abs, refl, sym, ◌∙◌, subst, arith}
 use Rattle.std.proofs.lemmas.Int.{ints}
 use Rattle.integer_laws.proofs.Ring.{Expr, var, con, neg, ◌⊕◌, ◌⊗◌, ◌⊖◌, ring}
 use Rattle.integer_laws.proofs.Signs.{mul_positive, mul_nonneg}
@@ -11,8 +11,7 @@ use Rattle.plane_core.specs.declared.numbers.Plane.{Plane as BookPlane}
 use Rattle.plane_core.specs.Views.{plane_of}
 use Rattle.plane_core.proofs.Laws.{reduced_is_reduced}
 use Rattle.plane_core.proofs.Cancel.{sign_cases}
-use Rattle.convex_cycles.specs.Areas.{AreSpread}
-use Rattle.convex_cycles.proofs.Orders.{weaker, sum_positive, sum_nonneg}
+use Rattle.convex_cycles.proofs.Orders.{weaker, sum_nonneg}
 use Rattle.convex_cycles.proofs.Quotes.{valuee, turne}
 use Rattle.poly_frag.specs.Cubes.{IsInCube, IsInsideCube, HasAreaInCube}
 

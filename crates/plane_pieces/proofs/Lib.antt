@@ -1,6 +1,7 @@
-pub mod Held
 pub mod Counts
-pub mod Sided
-pub mod Parts
-pub mod InnerAreas
 pub mod Covers
+pub mod Held
+pub mod InnerAreas
+pub mod Laws
+pub mod Parts
+pub mod Sided

@@ -1,5 +1,5 @@
 -- Which of the parts that a cut leaves have a point strictly inside.
-use Rattle.std.proofs.Common.{◌≡◌, ◌≢◌, ◌⊎◌, inl, inr, ℕ, ◌+◌, Bool, true, false, List, ℤ, pos, neg_ℤ, ◌<ℤ◌, ◌≤ℤ◌, refl, sym, ap, ◌∙◌, subst, arith}
+use Rattle.std.proofs.Common.{◌≡◌, ◌≢◌, inl, inr, ℕ, ◌+◌, false, List, ℤ, pos, neg_ℤ, ◌<ℤ◌, sym, ◌∙◌, arith}
 use Rattle.std.proofs.lemmas.Int.{ints}
 use Rattle.spec_space.specs.declared.Point.{Point}
 use Rattle.spec_space.specs.declared.Plane.{Plane}
@@ -7,7 +7,7 @@ use Rattle.spec_space.specs.Points.{IsPoint, value, opposite}
 use Rattle.plane_core.specs.declared.numbers.Plane.{Plane as BookPlane}
 use Rattle.plane_core.proofs.Cancel.{sign_cases}
 use Rattle.convex_cycles.proofs.Hull.{value-opposite}
-use Rattle.poly_frag.specs.Frags.{IsInside, IsPartOf, HasPart}
+use Rattle.poly_frag.specs.Frags.{IsPartOf, HasPart}
 use Rattle.poly_frag.specs.declared.frag.Frag.{Frag}
 use Rattle.poly_frag.proofs.Ahead.{IsOtherSide}
 use Rattle.plane_pieces.specs.Points.{holds}

@@ -1,16 +1,16 @@
 -- A piece with one side more.
-use Rattle.std.proofs.Common.{◌≡◌, ◌≢◌, ◌⊎◌, inl, inr, ℕ, zero, suc, ◌+◌, ◌<◌, Bool, true, false, List, [], ◌∷◌, ◌++◌, length, length-append, map, slice_get, Option, Some, None, ℤ, pos, ◌<ℤ◌, refl, sym, ap, ◌∙◌, subst, arith}
+use Rattle.std.proofs.Common.{◌≡◌, ◌⊎◌, inl, inr, ℕ, zero, suc, ◌+◌, Bool, true, false, List, [], ◌∷◌, ◌++◌, length, length-append, map, slice_get, Some, pos, refl, sym, ap, ◌∙◌, subst, arith}
 use Rattle.spec_space.specs.declared.Point.{Point}
 use Rattle.spec_space.specs.Points.{IsPoint, value, opposite}
 use Rattle.plane_core.specs.declared.numbers.Plane.{Plane as BookPlane}
 use Rattle.plane_core.specs.declared.book.PlaneId.{PlaneId}
 use Rattle.convex_cycles.specs.Sides.{IsWithin}
 use Rattle.convex_cycles.proofs.Cuts.{from_opposite}
-use Rattle.poly_frag.specs.Frags.{plane_at, side_of, sides_of, support_of, IsInside, IsPartOf}
+use Rattle.poly_frag.specs.Frags.{plane_at, side_of, IsInside, IsPartOf}
 use Rattle.poly_frag.specs.Cycles.{IsFragment}
 use Rattle.poly_frag.specs.declared.frag.Frag.{Frag}
 use Rattle.poly_frag.proofs.Wholes.{same_fragment}
-use Rattle.plane_pieces.specs.Pieces.{TellsSide, TellsSides, IsPiece}
+use Rattle.plane_pieces.specs.Pieces.{TellsSide, IsPiece}
 use Rattle.plane_pieces.specs.declared.sides.Piece.{Piece}
 
 -- ---- the last of a list

@@ -3,6 +3,8 @@
 
 mod cuts;
 mod sides;
+#[cfg(test)]
+mod tests;
 mod whole;
 
 pub use sides::Piece;

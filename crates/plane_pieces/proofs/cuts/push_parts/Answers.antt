@@ -1,5 +1,4 @@
-use Rattle.std.proofs.Common.{◌≡◌, ◌+◌, ◌∙◌, sym, ap, subst, true, false, length, All}
-use Rattle.std.proofs.lemmas.List.Elements.{All-push}
+use Rattle.std.proofs.Common.{◌+◌, ◌∙◌, ap, subst, true, false}
 use Rattle.spec_space.specs.Points.{opposite}
 use Rattle.poly_frag.specs.Frags.{plane_at}
 use Rattle.poly_frag.specs.Splits.{IsSplit, AreSplitFragments, AreSplitEdges}
@@ -8,7 +7,7 @@ use Rattle.plane_pieces.specs.Points.{holds}
 use Rattle.plane_pieces.specs.Pieces.{IsPiece}
 use Rattle.plane_pieces.proofs.Sided.{made, own_side, front_part, back_part}
 use Rattle.plane_pieces.proofs.Parts.{held_by_one, held_by_two, off_behind}
-use Rattle.plane_pieces.proofs.Counts.{one, around, pushed, pushed_twice, around_pushed, around_pushed_twice}
+use Rattle.plane_pieces.proofs.Counts.{pushed, pushed_twice, around_pushed, around_pushed_twice}
 use Rattle.plane_pieces.proofs.cuts.push_parts.Goals as goal
 
 pub returns-then-by-support-clause-pieces : goal.returns-then-by-support-clause-pieces

@@ -7,7 +7,7 @@ use Rattle.plane_pieces.proofs.whole.pieces_on.Goals as goal
 pub loop-k-preserved : goal.loop-k-preserved
 loop-k-preserved c = record {
   pieces = c.in_ok-pieces-2.ensures.pieces;
-  cover = next_cover c.args.book.now c.args.support (record { k = c.loop-k.k }) c.loop-k.pieces.items c.in_ok-pieces-2.pieces.items c.loop-k.auto.k c.loop-k.invariant.cover
+  cover = next_cover c.args.book.now c.args.support (record { k = c.loop-k.k }) c.loop-k.pieces.items c.in_ok-pieces-2.pieces.items (omega arith) c.loop-k.invariant.cover
       (λ p is off. c.in_ok-pieces-2.ensures.cover p is off ∙ ap (around c.args.book.now p) c.deref.ensures.value);
 }
 

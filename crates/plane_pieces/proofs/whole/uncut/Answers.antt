@@ -1,10 +1,9 @@
-use Rattle.std.proofs.Common.{◌≡◌, ◌∙◌, ◌++◌, ◌∷◌, [], sym, ap, subst, None, Some, true, false, true≢false, IfSome, IsSome, All, Option, ◌<◌}
+use Rattle.std.proofs.Common.{◌≡◌, ◌∙◌, ◌++◌, ◌∷◌, [], sym, ap, subst, true≢false, IfSome, IsSome, All, ◌<◌}
 use Rattle.std.specs.Prelude.{◌↔◌}
 use Rattle.std.proofs.lemmas.List.Elements.{All-nil}
 use Rattle.poly_frag.specs.Cubes.{HasAreaInCube, HoldsCubePoints}
 use Rattle.poly_frag.specs.Frags.{plane_at}
 use Rattle.poly_frag.specs.Cycles.{IsFragment}
-use Rattle.poly_frag.specs.declared.frag.Frag.{Frag}
 use Rattle.plane_pieces.specs.Pieces.{IsPiece}
 use Rattle.plane_pieces.specs.declared.sides.Piece.{Piece}
 use Rattle.plane_pieces.proofs.Counts.{pushed}
