@@ -1,8 +1,8 @@
 -- The way along an edge of a cycle: the cross product of the normals of its plane and of its edge plane, up to a positive
 -- factor.
-use Rattle.std.proofs.Common.{◌≡◌, ◌⊎◌, inl, inr, List, [], ◌∷◌, ℤ, pos, neg_ℤ, ◌+ℤ◌, ◌-ℤ◌, ◌*ℤ◌, ◌<ℤ◌, ◌≤ℤ◌, refl, sym, ap, ◌∙◌, subst, arith}
+use Rattle.std.proofs.Common.{◌≡◌, ◌⊎◌, inl, inr, [], ◌∷◌, ℤ, pos, neg_ℤ, ◌+ℤ◌, ◌-ℤ◌, ◌*ℤ◌, ◌<ℤ◌, refl, sym, ap, ◌∙◌, subst, arith}
 use Rattle.std.proofs.lemmas.Int.{ints}
-use Rattle.integer_laws.proofs.Ring.{var, con, neg, ◌⊕◌, ◌⊗◌, ◌⊖◌, ring, *ℤ_comm}
+use Rattle.integer_laws.proofs.Ring.{var, con, neg, ◌⊕◌, ◌⊗◌, ◌⊖◌, ring}
 use Rattle.integer_laws.proofs.Signs.{mul_positive, square_positive}
 use Rattle.spec_space.specs.declared.Point.{Point}
 use Rattle.spec_space.specs.declared.Plane.{Plane}
@@ -47,10 +47,13 @@ record IsProportional (d w : Vector) (a b : ℤ) : Type 0 where
 goes : (d w : Vector) (a b : ℤ) → IsProportional d w a b → GoesAlong d w
 goes d w a b p = elim (zero_or d.x) [
   | inr x ↦ inl (same_sign a b d.x w.x p.first p.second p.along_x x)
-  | inl x ↦ inr (x, elim (zero_or d.y) [
-    | inr y ↦ inl (same_sign a b d.y w.y p.first p.second p.along_y y)
-    | inl y ↦ inr (y, same_sign a b d.z w.z p.first p.second p.along_z (p.some x y))
-  ])
+  | inl x ↦ inr (
+    x,
+    elim (zero_or d.y) [
+      | inr y ↦ inl (same_sign a b d.y w.y p.first p.second p.along_y y)
+      | inl y ↦ inr (y, same_sign a b d.z w.z p.first p.second p.along_z (p.some x y))
+    ],
+  )
 ]
 
 -- ---- along an edge

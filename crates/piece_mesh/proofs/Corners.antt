@@ -1,5 +1,5 @@
 -- Corners with the same numbers are one corner, and the places of corners in a growing list.
-use Rattle.std.proofs.Common.{◌≡◌, ◌⊎◌, inl, inr, ℕ, zero, suc, ◌+◌, ◌*◌, ◌<◌, ◌≤◌, ◌^◌, Bool, true, false, ◌&&◌, ◌||◌, not, cond, List, [], ◌∷◌, ◌++◌, Option, Some, length, take, slice_get, Contains, ℤ, pos, ◌<ℤ◌, unsigned_abs, get_or, arith, refl, sym, ap, ap₂, subst, ◌∙◌, int_eq, append_assoc, length-append}
+use Rattle.std.proofs.Common.{◌≡◌, inl, inr, ℕ, zero, suc, ◌+◌, ◌*◌, ◌<◌, ◌≤◌, ◌^◌, Bool, true, false, ◌&&◌, ◌||◌, not, cond, List, [], ◌∷◌, ◌++◌, Some, length, take, slice_get, Contains, ℤ, pos, ◌<ℤ◌, unsigned_abs, get_or, arith, refl, sym, ap, subst, ◌∙◌, int_eq, append_assoc, length-append}
 use Rattle.std.proofs.Props.{props}
 use Rattle.std.specs.Bool.{if◌then◌else◌, Decides}
 use Rattle.std.specs.List.{list_any, position_or_len, IsDistinct}

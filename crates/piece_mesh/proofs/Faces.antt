@@ -1,5 +1,5 @@
 -- The faces of a mesh from pieces are full, hold the points of their pieces, and have each corner once.
-use Rattle.std.proofs.Common.{◌≡◌, ◌≢◌, inl, inr, ℕ, zero, suc, ◌+◌, ◌<◌, ◌≤◌, Bool, true, false, ◌&&◌, ◌==◌, List, [], ◌∷◌, ◌++◌, Some, map, reverse, length, slice_get, slice_index_or, Contains, ℤ, pos, neg_ℤ, ◌<ℤ◌, ◌≤ℤ◌, int_lt, unsigned_abs, refl, sym, ap, ◌∙◌, subst, arith}
+use Rattle.std.proofs.Common.{◌≡◌, ◌≢◌, inl, inr, ℕ, zero, suc, ◌<◌, ◌≤◌, Bool, true, false, ◌&&◌, ◌==◌, List, [], ◌∷◌, Some, map, reverse, length, slice_get, slice_index_or, Contains, ℤ, pos, neg_ℤ, ◌<ℤ◌, int_lt, unsigned_abs, refl, sym, ap, ◌∙◌, subst, arith}
 use Rattle.std.specs.Prelude.{◌↔◌}
 use Rattle.std.proofs.lemmas.Int.{ints}
 use Rattle.std.specs.List.{list_all, All, AllPairs, Any}
@@ -18,15 +18,15 @@ use Rattle.plane_core.specs.declared.numbers.Corner.{Corner}
 use Rattle.plane_core.specs.Views.{point_of}
 use Rattle.convex_cycles.specs.Cycles.{Step}
 use Rattle.convex_cycles.proofs.Lists.{Each, EachPair, Member, each_from_all, all_from_each, all_from_pair, pair_from_all, each_weaker, each_map, each_from_map}
-use Rattle.convex_cycles.proofs.Orders.{turned_up, negative_sign, turned_down}
-use Rattle.convex_cycles.proofs.Hull.{value-opposite, opposite_front, from_opposite_front}
+use Rattle.convex_cycles.proofs.Orders.{turned_down}
+use Rattle.convex_cycles.proofs.Hull.{value-opposite}
 use Rattle.poly_frag.specs.Frags.{kept_side, side_of, sides_of, support_of, IsInside}
 use Rattle.poly_frag.specs.Cycles.{IsCycle}
 use Rattle.poly_frag.specs.declared.frag.Edge.{Edge}
 use Rattle.poly_frag.specs.declared.frag.Frag.{Frag}
 use Rattle.poly_frag.proofs.Starts.{AreStarts, starts_of}
 use Rattle.piece_mesh.specs.Builders.{AreDistinct, AreUsed, IsGrown}
-use Rattle.piece_mesh.specs.Pieces.{outer_side, edges_seen, corners_seen, AreAt, HasCornersSeen, IsFaceOf}
+use Rattle.piece_mesh.specs.Pieces.{outer_side, edges_seen, corners_seen, AreAt, IsFaceOf}
 use Rattle.piece_mesh.proofs.Rows.{Rows, map-reverse, map-rotated, each_reverse, each_from_reverse, each_rotated, each_from_rotated}
 use Rattle.piece_mesh.proofs.Rings.{HasBehind, IsRing, front_ring, back_ring}
 use Rattle.piece_mesh.proofs.Corners.{same_corner, at_append}
@@ -203,9 +203,9 @@ module _ (planes : List BookPlane) (f : Frag) (front_out : Bool) (p : Point) whe
       let parts = both (unsigned_abs (value h p) == 0) (list_all behind_edge edges) e in (
         from_on_kept front_out (support_of planes f) p (size_zero (value h p) (eqb-true (unsigned_abs (value h p)) 0 parts.0)),
         all_from_each (λ k. pos 0 <ℤ value k p) (sides_of planes f) (each_map (λ k. pos 0 <ℤ value k p) (side_of planes) f.edges.items
-        (each_weaker (λ e. behind_edge (outer_side planes e) ≡ true) (λ e. pos 0 <ℤ value (side_of planes e) p) (λ e t. from_test_outer (side_of planes e) p t) f.edges.items
-        (each_from_seen (λ e. behind_edge (outer_side planes e) ≡ true) front_out f.edges.items
-        (each_from_map (λ m. behind_edge m ≡ true) (outer_side planes) (edges_seen front_out f.edges.items) (all_true behind_edge edges parts.1))))),
+            (each_weaker (λ e. behind_edge (outer_side planes e) ≡ true) (λ e. pos 0 <ℤ value (side_of planes e) p) (λ e t. from_test_outer (side_of planes e) p t) f.edges.items
+            (each_from_seen (λ e. behind_edge (outer_side planes e) ≡ true) front_out f.edges.items
+            (each_from_map (λ m. behind_edge m ≡ true) (outer_side planes) (edges_seen front_out f.edges.items) (all_true behind_edge edges parts.1))))),
       )
 
   inside_lies : (corners : List ℕ) → IsInside planes f p → lies_on (seen_face corners) p ≡ true

@@ -5,3 +5,5 @@ pub mod Corners
 pub mod Turned
 pub mod Faces
 pub mod Scaled
+pub mod Meshes
+pub mod Reach

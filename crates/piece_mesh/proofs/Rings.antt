@@ -13,10 +13,10 @@ use Rattle.plane_core.specs.Points.{IsSamePoint}
 use Rattle.plane_core.specs.Views.{point_of}
 use Rattle.plane_core.proofs.Cancel.{zero_right, positive_right, nonpos_right, mul_nonpos}
 use Rattle.convex_cycles.specs.Cycles.{Step, IsEdgeOf, AreChained, IsRound, Keeps, KeepEachOther, AreConvex, turn}
-use Rattle.convex_cycles.proofs.Lists.{Each, EachPair, Member, all_from_each, each_from_members, each_weaker, each_map}
+use Rattle.convex_cycles.proofs.Lists.{Each, EachPair, Member, all_from_each, each_from_members, each_weaker}
 use Rattle.convex_cycles.proofs.Orders.{weaker, turned_down}
 use Rattle.convex_cycles.proofs.Turns.{turned}
-use Rattle.convex_cycles.proofs.Links.{IsLinked, HasStep, edge, far_corner, each_mapped}
+use Rattle.convex_cycles.proofs.Links.{IsLinked, edge, far_corner, each_mapped}
 use Rattle.convex_cycles.proofs.Hull.{value-opposite, opposite_low}
 use Rattle.convex_cycles.proofs.CutCycles.{CycleFacts, to_cycle, linked}
 use Rattle.poly_frag.proofs.Starts.{AreStarts, same_values}
@@ -33,7 +33,7 @@ on_corner h p q hq s e = zero_right q.w (value h p) hq (*ℤ_comm q.w (value h p
 in_corner : (h : Plane) (p q : Point) → IsPoint p → IsPoint q → IsSamePoint p q → pos 0 <ℤ value h q → pos 0 <ℤ value h p
 in_corner h p q hp hq s i = positive_right q.w (value h p) hq (subst (λ v. pos 0 <ℤ v) (sym (same_values h p q s) ∙ *ℤ_comm (value h p) q.w) (mul_positive (value h q) p.w i hp))
 
-behind_corner : (h : Plane) (p q : Point) → IsPoint p → IsPoint q → IsSamePoint p q → value h q ≤ℤ pos 0 → value h p ≤ℤ pos 0
+pub behind_corner : (h : Plane) (p q : Point) → IsPoint p → IsPoint q → IsSamePoint p q → value h q ≤ℤ pos 0 → value h p ≤ℤ pos 0
 behind_corner h p q hp hq s l = nonpos_right q.w (value h p) hq (subst (λ v. v ≤ℤ pos 0) (*ℤ_comm p.w (value h q) ∙ sym (same_values h p q s) ∙ *ℤ_comm (value h p) q.w) (mul_nonpos p.w (value h q) (weaker p.w hp) l))
 
 -- a fact of each corner from one of each step's start
@@ -109,9 +109,10 @@ chain_rows s points e [] last c [] first is behind chain a same =
     ((run_of s e (point_of c) (point_of first) c.positive first.positive is.0 a.0 (subst (IsSamePoint (point_of first)) (sym chain.0) same), behind.0), tt)
 chain_rows s points e [] last c (d ∷ cs) first is behind chain a same = absurd a.1
 chain_rows s points e (f ∷ fs) last c [] first is behind chain a same = absurd a.1
-chain_rows s points e (f ∷ fs) last c (d ∷ cs) first is behind chain a same =
-    ((run_of s e (point_of c) (point_of d) c.positive d.positive is.0 a.0 (subst (IsSamePoint (point_of d)) (sym chain.0.0) a.1.0), behind.0),
-      chain_rows s points f fs last d cs first is.1 behind.1 chain.1 a.1 same)
+chain_rows s points e (f ∷ fs) last c (d ∷ cs) first is behind chain a same = (
+  (run_of s e (point_of c) (point_of d) c.positive d.positive is.0 a.0 (subst (IsSamePoint (point_of d)) (sym chain.0.0) a.1.0), behind.0),
+  chain_rows s points f fs last d cs first is.1 behind.1 chain.1 a.1 same,
+)
 
 round_rows : (s : Plane) (points : List Point) (steps : List Step) (cs : List Corner) → CycleFacts s steps → Each (λ f. Each (λ p. value (outer f) p ≤ℤ pos 0) points) steps → AreStarts cs steps
     → Rows (IsBounded s points) (map outer steps) (map point_of cs) (rotated (map point_of cs))

@@ -1,5 +1,5 @@
 -- Lists the other way round and begun one later, and facts that run along three lists.
-use Rattle.std.proofs.Common.{◌≡◌, ◌⊎◌, inl, inr, List, [], ◌∷◌, ◌++◌, map, reverse, refl, sym, ap, ◌∙◌, subst}
+use Rattle.std.proofs.Common.{◌≡◌, inl, inr, List, [], ◌∷◌, ◌++◌, map, reverse, refl, sym, ap, ◌∙◌, subst}
 use Rattle.std.proofs.lemmas.List.{reverse-append, reverse-reverse}
 use Rattle.spec_page.specs.Faces.{rotated}
 use Rattle.convex_cycles.proofs.Lists.{Each, EachPair, Member, each_append, each_split, each_weaker, member_left, member_right, pair_append}

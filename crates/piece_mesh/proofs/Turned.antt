@@ -1,5 +1,5 @@
 -- Planes turned outwards, as four numbers, and the faces that are made of them.
-use Rattle.std.proofs.Common.{◌≡◌, ◌⊎◌, inl, inr, ℕ, ◌+◌, ◌<◌, ◌≤◌, ◌^◌, Bool, true, false, not, List, [], ◌∷◌, ◌++◌, Some, length, map, take, reverse, get_or, slice_get, Any, Contains, ℤ, pos, neg_ℤ, ◌-ℤ◌, unsigned_abs, to_z, of_z, arith, refl, sym, ap, subst, ◌∙◌, length-append, true≢false}
+use Rattle.std.proofs.Common.{◌≡◌, inl, inr, ℕ, ◌+◌, ◌<◌, ◌≤◌, ◌^◌, Bool, true, false, not, List, [], ◌∷◌, ◌++◌, Some, length, map, take, reverse, get_or, slice_get, Any, Contains, ℤ, pos, neg_ℤ, ◌-ℤ◌, unsigned_abs, to_z, of_z, arith, refl, sym, ap, subst, ◌∙◌, length-append, true≢false}
 use Rattle.std.proofs.lemmas.Int.{ints}
 use Rattle.std.proofs.lemmas.Grind.{common_steps}
 use Rattle.std.proofs.lemmas.List.{take_more}
@@ -14,7 +14,7 @@ use Rattle.plane_core.specs.declared.numbers.Plane.{Plane as BookPlane}
 use Rattle.plane_core.specs.declared.numbers.Corner.{Corner}
 use Rattle.plane_core.specs.Views.{plane_of}
 use Rattle.exact_mesh.specs.Meshes.{plane_of as numbered_plane}
-use Rattle.poly_frag.specs.Frags.{numbered, kept_side, side_of}
+use Rattle.poly_frag.specs.Frags.{numbered, kept_side}
 use Rattle.poly_frag.specs.declared.frag.Edge.{Edge}
 use Rattle.piece_mesh.specs.Builders.{AreUsed, AreFresh}
 use Rattle.piece_mesh.specs.Pieces.{outer_side, edges_seen}

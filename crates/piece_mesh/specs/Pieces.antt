@@ -45,3 +45,18 @@ pub record IsFaceOf (planes : List BookPlane) (f : Frag) (front_out : Bool) (cor
   pub seen : List Corner
   pub of_piece : HasCornersSeen planes f front_out seen
   pub at : AreAt corners face.corners seen
+
+-- a piece of a plane, and whether its front is outside, or its back
+pub record Piece : Type 0 where
+  pub frag : Frag
+  pub front_out : Bool
+
+-- its plane with the normal outwards
+abbrev pub outward_plane : List BookPlane → Piece → Plane
+outward_plane planes piece = kept_side piece.front_out (support_of planes piece.frag)
+
+-- the faces are these pieces, in order
+abbrev pub AreFacesOf : List BookPlane → List Corner → List Piece → List Face → Type 0
+AreFacesOf planes corners [] [] = Unit {0}
+AreFacesOf planes corners (p ∷ ps) (f ∷ fs) = IsFaceOf planes p.frag p.front_out corners f × AreFacesOf planes corners ps fs
+AreFacesOf planes corners _ _ = ⊥

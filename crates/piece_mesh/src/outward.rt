@@ -22,11 +22,7 @@ pub(crate) fn outward_numbers(plane: &Plane, front_out: bool) -> [i128; 4]
 }
 
 /// For each edge of the piece the plane through it, with its normal out of the piece.
-fn edge_planes(
-    alloc: Global,
-    book: &PlaneBook,
-    frag: &Frag,
-) -> Result<Vec<[i128; 4]>, AllocError>
+fn edge_planes(alloc: Global, book: &PlaneBook, frag: &Frag) -> Result<Vec<[i128; 4]>, AllocError>
     requires given { All (λ e. e.plane.k < length book.now) frag.now.edges.items }
     ensures planes { IfOk result (λ planes. map numbered_plane planes.items ≡ map (outer_side book.now) frag.now.edges.items) }
 {

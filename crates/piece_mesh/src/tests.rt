@@ -24,34 +24,36 @@ fn wall(k: u32, keep_front: bool) -> Edge
     }
 }
 
-/// The square of the cube on its wall at the high end of z: from (-, -) by (+, -) and (+, +) to (-, +).
-fn top(alloc: Global) -> Result<Frag, AllocError>
+/// The square of the cube on its wall at the low end of z: from (-, -) by (+, -) and (+, +) to (-, +).
+fn floor(alloc: Global) -> Result<Frag, AllocError>
     ensures { IfOk result (λ f. (planes : List BookPlane) → BeginsWithWalls planes → 5 < length planes → IsCycle planes f) }
 {
     let walls = [wall(2, true), wall(1, false), wall(3, false), wall(0, true)];
+    let edges = SmallVec::from_slice(alloc, &walls)?;
     Ok(Frag {
-        support: PlaneId { k: 5 },
-        edges: SmallVec::from_slice(alloc, &walls)?,
+        support: PlaneId { k: 4 },
+        edges,
     })
 }
 
-/// The square of the cube on its wall at the high end of x.
+/// The square of the cube on its wall at the low end of x.
 fn side(alloc: Global) -> Result<Frag, AllocError>
     ensures { IfOk result (λ f. (planes : List BookPlane) → BeginsWithWalls planes → 5 < length planes → IsCycle planes f) }
 {
     let walls = [wall(4, true), wall(3, false), wall(5, false), wall(2, true)];
+    let edges = SmallVec::from_slice(alloc, &walls)?;
     Ok(Frag {
-        support: PlaneId { k: 1 },
-        edges: SmallVec::from_slice(alloc, &walls)?,
+        support: PlaneId { k: 0 },
+        edges,
     })
 }
 
-/// The mesh of the top, seen from one of its sides, and maybe the side seen from the front.
+/// The mesh of the floor, seen from one of its sides, and maybe the side seen from the front.
 fn mesh(alloc: Global, front_out: bool, with_side: bool) -> Result<ExactMesh, AllocError> {
     let book = PlaneBook::new(alloc)?;
     let _count = book.count();
     let mut builder = MeshBuilder::new(alloc);
-    builder.add_face(alloc, &book, &top(alloc)?, front_out)?;
+    builder.add_face(alloc, &book, &floor(alloc)?, front_out)?;
     if with_side {
         builder.add_face(alloc, &book, &side(alloc)?, true)?;
     }
@@ -61,15 +63,20 @@ fn mesh(alloc: Global, front_out: bool, with_side: bool) -> Result<ExactMesh, Al
 /// Whether the mesh has these corners, which have the weight 1.
 fn has_corners(mesh: &ExactMesh, places: &[[i128; 3]]) -> bool {
     mesh.corners.len() == places.len()
-        && mesh
-            .corners
-            .iter()
-            .zip(places)
-            .all(|(c, p)| c.x == p[0] && c.y == p[1] && c.z == p[2] && c.w == 1)
+        && mesh.corners.iter().zip(places).all(|(c, p)| c.x == p[0]
+            && c.y == p[1]
+            && c.z == p[2]
+            && c.w == 1)
 }
 
 /// Whether the mesh's face at the place is this one.
-fn has_face(mesh: &ExactMesh, place: usize, plane: [i128; 4], edges: &[[i128; 4]], corners: &[usize]) -> bool {
+fn has_face(
+    mesh: &ExactMesh,
+    place: usize,
+    plane: [i128; 4],
+    edges: &[[i128; 4]],
+    corners: &[usize],
+) -> bool {
     match mesh.faces.get(place) {
         Some(face) => {
             face.plane == plane
@@ -83,20 +90,40 @@ fn has_face(mesh: &ExactMesh, place: usize, plane: [i128; 4], edges: &[[i128; 4]
 #[test]
 fn adds_a_square_seen_from_its_front(rt: HostRuntime) -> Result<(), Fail> {
     let mesh = mesh(rt.alloc(), true, false)?;
-    let corners = [[-FAR, -FAR, FAR], [FAR, -FAR, FAR], [FAR, FAR, FAR], [-FAR, FAR, FAR]];
+    let corners = [
+        [-FAR, -FAR, -FAR],
+        [FAR, -FAR, -FAR],
+        [FAR, FAR, -FAR],
+        [-FAR, FAR, -FAR],
+    ];
     assert!(rt; has_corners(&mesh, &corners));
-    let edges = [[0, -1, 0, FAR], [1, 0, 0, FAR], [0, 1, 0, FAR], [-1, 0, 0, FAR]];
-    assert!(rt; has_face(&mesh, 0, [0, 0, 1, FAR], &edges, &[0, 1, 2, 3]));
+    let edges = [
+        [0, -1, 0, FAR],
+        [1, 0, 0, FAR],
+        [0, 1, 0, FAR],
+        [-1, 0, 0, FAR],
+    ];
+    assert!(rt; has_face(&mesh, 0, [0, 0, 1, -FAR], &edges, &[0, 1, 2, 3]));
     Ok(())
 }
 
 #[test]
 fn adds_a_square_seen_from_its_back(rt: HostRuntime) -> Result<(), Fail> {
     let mesh = mesh(rt.alloc(), false, false)?;
-    let corners = [[-FAR, FAR, FAR], [FAR, FAR, FAR], [FAR, -FAR, FAR], [-FAR, -FAR, FAR]];
+    let corners = [
+        [-FAR, FAR, -FAR],
+        [FAR, FAR, -FAR],
+        [FAR, -FAR, -FAR],
+        [-FAR, -FAR, -FAR],
+    ];
     assert!(rt; has_corners(&mesh, &corners));
-    let edges = [[0, 1, 0, FAR], [1, 0, 0, FAR], [0, -1, 0, FAR], [-1, 0, 0, FAR]];
-    assert!(rt; has_face(&mesh, 0, [0, 0, -1, -FAR], &edges, &[0, 1, 2, 3]));
+    let edges = [
+        [0, 1, 0, FAR],
+        [1, 0, 0, FAR],
+        [0, -1, 0, FAR],
+        [-1, 0, 0, FAR],
+    ];
+    assert!(rt; has_face(&mesh, 0, [0, 0, -1, FAR], &edges, &[0, 1, 2, 3]));
     Ok(())
 }
 
@@ -104,8 +131,13 @@ fn adds_a_square_seen_from_its_back(rt: HostRuntime) -> Result<(), Fail> {
 fn keeps_one_place_for_a_shared_corner(rt: HostRuntime) -> Result<(), Fail> {
     let mesh = mesh(rt.alloc(), true, true)?;
     assert_eq!(rt; mesh.corners.len(), 6);
-    let edges = [[0, 0, -1, FAR], [0, 1, 0, FAR], [0, 0, 1, FAR], [0, -1, 0, FAR]];
-    assert!(rt; has_face(&mesh, 1, [1, 0, 0, FAR], &edges, &[4, 5, 2, 1]));
+    let edges = [
+        [0, 0, -1, FAR],
+        [0, 1, 0, FAR],
+        [0, 0, 1, FAR],
+        [0, -1, 0, FAR],
+    ];
+    assert!(rt; has_face(&mesh, 1, [1, 0, 0, -FAR], &edges, &[0, 3, 4, 5]));
     Ok(())
 }
 

@@ -1,4 +1,3 @@
-use Rattle.std.proofs.Common.{arith}
 use Rattle.integer_laws.proofs.Computed.{arg}
 use Rattle.piece_mesh.proofs.Scaled.{image_of, x_image, y_image, z_image}
 use Rattle.piece_mesh.proofs.micrometres.printed.Goals as goal

@@ -1,4 +1,4 @@
-use Rattle.std.proofs.Common.{◌≡◌, ◌+◌, ap, sym, subst, ◌∙◌, map, take, false}
+use Rattle.std.proofs.Common.{◌≡◌, ◌+◌, sym, subst, map, take, false}
 use Rattle.exact_mesh.specs.Meshes.{plane_of as numbered_plane}
 use Rattle.piece_mesh.specs.Pieces.{outer_side}
 use Rattle.poly_frag.specs.declared.frag.Edge.{Edge}

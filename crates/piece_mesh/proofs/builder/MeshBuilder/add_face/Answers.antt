@@ -1,5 +1,4 @@
 use Rattle.std.proofs.Common.{◌≡◌, List, ◌++◌, ◌∷◌, [], ap, sym, ◌∙◌, subst, map}
-use Rattle.spec_page.specs.Element.{Face}
 use Rattle.exact_mesh.specs.declared.mesh.MeshFace.{MeshFace}
 use Rattle.exact_mesh.specs.Meshes.{face_of}
 use Rattle.poly_frag.specs.Frags.{numbered, kept_side}
