@@ -29,7 +29,6 @@ use Rattle.piece_mesh.proofs.Rows.{map-append}
 use Rattle.piece_mesh.proofs.Faces.{face-lies_on, face_kept}
 use Rattle.plain_engine.specs.Meanings.{AreMeanings}
 use Rattle.plain_engine.specs.Parts.{IsPieceFace, IsPartMesh, planes_at, AddsPiece}
-use Rattle.plain_engine.proofs.Bounds.{corners_in_steps}
 
 -- ---- the plane of a fragment
 pub plane_given : {X : Type 0} (xs : List X) (k : ℕ) → k < length xs → (x : X) × (slice_get xs k ≡ Some x)
@@ -144,17 +143,15 @@ piece_face_kept planes old new grown face is = record {
   fragment = is.fragment;
   no_wall = is.no_wall;
   is_face = face_kept planes is.frag is.front_out old new face grown is.is_face;
-  steps = is.steps;
 }
 
-pub part_next : (planes : List BookPlane) (s : Tree) (f : Frag) (in_front behind : Bool) → IsFragment planes f → 6 ≤ f.support.k → AreMeanings planes s f in_front behind → in_front ≢ behind
-    → (old_corners new_corners : List Corner) (old new : List Face) (face : Face) → IsGrown old_corners new_corners → new ≡ old ++ face ∷ [] → IsFaceOf planes f behind new_corners face
+pub part_next : (planes : List BookPlane) (f : Frag) (behind : Bool) → IsFragment planes f → 6 ≤ f.support.k → (old_corners new_corners : List Corner) (old new : List Face) (face : Face) → IsGrown old_corners new_corners → new ≡ old ++ face ∷ [] → IsFaceOf planes f behind new_corners face
     → (AreDistinct old_corners → AreDistinct new_corners) → (AreUsed old_corners old → AreUsed new_corners new)
     → IsPartMesh planes old_corners old → IsPartMesh planes new_corners new
-part_next planes s f in_front behind fragment own are ne old_corners new_corners old new face grown more is_face distinct used part = record {
+part_next planes f behind fragment own old_corners new_corners old new face grown more is_face distinct used part = record {
   pieces = subst (All (IsPieceFace planes new_corners)) (sym more) (All-push (IsPieceFace planes new_corners) old face
       (All-weaker (IsPieceFace planes old_corners) (IsPieceFace planes new_corners) (piece_face_kept planes old_corners new_corners grown) old part.pieces)
-      (record { frag = f; front_out = behind; fragment = fragment; no_wall = own; is_face = is_face; steps = corners_in_steps planes s f in_front behind fragment are ne }));
+      (record { frag = f; front_out = behind; fragment = fragment; no_wall = own; is_face = is_face }));
   distinct = distinct part.distinct;
   used = used part.used;
 }

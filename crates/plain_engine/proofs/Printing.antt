@@ -26,18 +26,20 @@ use Rattle.plane_core.specs.declared.numbers.Corner.{Corner}
 use Rattle.plane_core.specs.Views.{plane_of, point_of}
 use Rattle.convex_cycles.proofs.Lists.{Each, Member, each_member, each_from_all, all_from_each}
 use Rattle.poly_frag.specs.Frags.{numbered, kept_side, support_of}
-use Rattle.poly_frag.proofs.CornerSigns.{contains_member}
+use Rattle.poly_frag.specs.Cycles.{IsFragment}
 use Rattle.box_solids.specs.Books.{ArePlanesOf}
 use Rattle.exact_mesh.specs.Meshes.{face_of, vector_of, vector_at, mesh_volume}
 use Rattle.exact_mesh.specs.Ranges.{IsWithin, AreNear}
 use Rattle.exact_mesh.specs.declared.mesh.MeshFace.{MeshFace}
 use Rattle.exact_mesh.proofs.Prints.{printed_volume_is}
 use Rattle.piece_mesh.specs.Builders.{AreDistinct, AreUsed}
-use Rattle.piece_mesh.specs.Pieces.{AreAt, corners_seen, IsFaceOf}
+use Rattle.piece_mesh.specs.Pieces.{AreAt, AreFacesOf, Piece as DrawnPiece}
+use Rattle.piece_mesh.specs.Sizes.{IsWithinReach}
 use Rattle.piece_mesh.proofs.Rows.{each_reverse, map-append}
+use Rattle.piece_mesh.proofs.Reach.{corners-AreWithinReach}
 use Rattle.piece_mesh.proofs.Scaled.{x_image, y_image, z_image}
 use Rattle.piece_mesh.proofs.Faces.{HasCorners, face-IsFull, exact-IsPoint, exact_differ, exact_used}
-use Rattle.plain_engine.specs.Parts.{IsInSteps, IsPieceFace, IsPartMesh, IsWholeMesh}
+use Rattle.plain_engine.specs.Parts.{IsPieceFace, IsPartMesh, IsWholeMesh}
 use Rattle.plain_engine.specs.Prints.{page_corners, element_of}
 use Rattle.plain_engine.specs.declared.mesh.PrintedMesh.{PrintedMesh}
 use Rattle.plain_engine.proofs.Boundaries.{plane_given}
@@ -53,30 +55,27 @@ no_part planes corners faces no_corners no_faces = record {
     none : (i n : ℕ) → n ≡ 0 → i < n → ⊥
     none i n e h = omega arith
 
--- ---- the corners of a mesh lie within the steps
-at_place : (corners : List Corner) (places : List ℕ) (seen : List Corner) → AreAt corners places seen → (i : ℕ) → Member i places → (c : Corner) × (slice_get corners i ≡ Some c) × Member c seen
-at_place corners [] seen a i m = absurd m
-at_place corners (p ∷ ps) [] a i m = absurd a
-at_place corners (p ∷ ps) (c ∷ cs) a i (inl same) = (c, ap (slice_get corners) same ∙ a.0, inl refl)
-at_place corners (p ∷ ps) (c ∷ cs) a i (inr m) = let r = at_place corners ps cs a.1 i m in (r.0, r.1, inr r.2)
+-- ---- the corners of a mesh lie within reach
+-- the pieces of the faces
+record HasPieces (planes : List BookPlane) (corners : List Corner) (faces : List Face) : Type 0 where
+  pieces : List DrawnPiece
+  fragments : Each (λ q. IsFragment planes q.frag) pieces
+  are_faces : AreFacesOf planes corners pieces faces
 
-seen_steps : (front_out : Bool) (cs : List Corner) → Each IsInSteps cs → Each IsInSteps (corners_seen front_out cs)
-seen_steps true cs e = e
-seen_steps false cs e = each_reverse IsInSteps cs e
+pieces_of : (planes : List BookPlane) (corners : List Corner) (faces : List Face) → Each (IsPieceFace planes corners) faces → HasPieces planes corners faces
+pieces_of planes corners [] e = record { pieces = []; fragments = tt; are_faces = tt }
+pieces_of planes corners (f ∷ fs) e =
+    let rest = pieces_of planes corners fs e.1 in
+    record {
+      pieces = record { frag = e.0.frag; front_out = e.0.front_out } ∷ rest.pieces;
+      fragments = (e.0.fragment, rest.fragments);
+      are_faces = (e.0.is_face, rest.are_faces);
+    }
 
-face_corner : (planes : List BookPlane) (corners : List Corner) (face : Face) → IsPieceFace planes corners face → (i : ℕ) → Contains face.corners i → (c : Corner) × (slice_get corners i ≡ Some c) × IsInSteps c
-face_corner planes corners face is i has =
-    let of_piece = is.is_face.of_piece in
-    let steps = seen_steps is.front_out of_piece.corners (each_from_all IsInSteps of_piece.corners (is.steps of_piece.corners of_piece.of_piece)) in
-    let found = at_place corners face.corners is.is_face.seen is.is_face.at i (contains_member i face.corners has) in
-    (found.0, found.1, each_member IsInSteps found.0 is.is_face.seen found.2 (subst (Each IsInSteps) (sym of_piece.in_order) steps))
-
-pub corners_in_steps : (planes : List BookPlane) (corners : List Corner) (faces : List Face) → IsPartMesh planes corners faces → All IsInSteps corners
-corners_in_steps planes corners faces part = λ k d below.
-    let use_of = part.used k below in
-    let piece = subst (IsPieceFace planes corners) use_of.3 (part.pieces use_of.0 use_of.1 use_of.2) in
-    let c = face_corner planes corners use_of.1 piece k use_of.4 in
-    subst IsInSteps (sym (get_or_from_slice_get corners k c.0 d c.1)) c.2
+pub corners_in_reach : (planes : List BookPlane) (corners : List Corner) (faces : List Face) → IsPartMesh planes corners faces → All IsWithinReach corners
+corners_in_reach planes corners faces part =
+    let has = pieces_of planes corners faces (each_from_all (IsPieceFace planes corners) faces part.pieces) in
+    corners-AreWithinReach planes corners has.pieces faces has.fragments has.are_faces part.used
 
 -- ---- sizes of printed corners
 floor_size : (n d q : ℤ) → pos 0 <ℤ d → (d *ℤ q) ≤ℤ n → n <ℤ (d *ℤ q +ℤ d) → (negsuc 2147483647 *ℤ d) ≤ℤ n → n <ℤ (pos 2147483648 *ℤ d) → unsigned_abs q ≤ 2 ^ 31
@@ -97,7 +96,7 @@ floor_size n d q positive low high least most =
     between : (q : ℤ) → q <ℤ pos 2147483648 → negsuc 2147483648 <ℤ q → unsigned_abs q ≤ 2 ^ 31
     between q h k = omega (arith, ints)
 
-coordinate_size : (x w above : ℤ) → pos 0 <ℤ w → unsigned_abs x ≤ 2 ^ 20 * unsigned_abs w → above ≡ pos 1000000000 *ℤ (pos 1000 *ℤ x) → unsigned_abs (round_of above (pos 1000000000 *ℤ w)) ≤ 2 ^ 31
+coordinate_size : (x w above : ℤ) → pos 0 <ℤ w → unsigned_abs x ≤ 2 ^ 21 * unsigned_abs w → above ≡ pos 1000000000 *ℤ (pos 1000 *ℤ x) → unsigned_abs (round_of above (pos 1000000000 *ℤ w)) ≤ 2 ^ 31
 coordinate_size x w above positive small e =
     let d = pos 2 *ℤ (pos 1000000000 *ℤ w) in
     let n = pos 2 *ℤ above +ℤ pos 1000000000 *ℤ w in
@@ -107,15 +106,15 @@ coordinate_size x w above positive small e =
     ahead : (w : ℤ) → pos 0 <ℤ w → pos 0 <ℤ (pos 2 *ℤ (pos 1000000000 *ℤ w))
     ahead w h = omega (arith, ints)
 
-    least : (x w above : ℤ) → pos 0 <ℤ w → unsigned_abs x ≤ 2 ^ 20 * unsigned_abs w → above ≡ pos 1000000000 *ℤ (pos 1000 *ℤ x)
+    least : (x w above : ℤ) → pos 0 <ℤ w → unsigned_abs x ≤ 2 ^ 21 * unsigned_abs w → above ≡ pos 1000000000 *ℤ (pos 1000 *ℤ x)
         → (negsuc 2147483647 *ℤ (pos 2 *ℤ (pos 1000000000 *ℤ w))) ≤ℤ (pos 2 *ℤ above +ℤ pos 1000000000 *ℤ w)
     least x w above h s e = omega (arith, ints)
 
-    most : (x w above : ℤ) → pos 0 <ℤ w → unsigned_abs x ≤ 2 ^ 20 * unsigned_abs w → above ≡ pos 1000000000 *ℤ (pos 1000 *ℤ x)
+    most : (x w above : ℤ) → pos 0 <ℤ w → unsigned_abs x ≤ 2 ^ 21 * unsigned_abs w → above ≡ pos 1000000000 *ℤ (pos 1000 *ℤ x)
         → (pos 2 *ℤ above +ℤ pos 1000000000 *ℤ w) <ℤ (pos 2147483648 *ℤ (pos 2 *ℤ (pos 1000000000 *ℤ w)))
     most x w above h s e = omega (arith, ints)
 
-pub image_size : (c : Corner) → IsInSteps c → IsWithin (2 ^ 31) (rounded_image world_frame 1000 (point_of c))
+pub image_size : (c : Corner) → IsWithinReach c → IsWithin (2 ^ 31) (rounded_image world_frame 1000 (point_of c))
 image_size c steps = record {
   x = coordinate_size c.x c.w _ c.positive steps.x (x_image c.x c.y c.z c.w);
   y = coordinate_size c.y c.w _ c.positive steps.y (y_image c.x c.y c.z c.w);
@@ -135,7 +134,7 @@ head_same x y xs ys e = cc
 tail_same : {X : Type 0} (x y : X) (xs ys : List X) → x ∷ xs ≡ y ∷ ys → xs ≡ ys
 tail_same x y xs ys e = cc
 
-small_vectors : (cs : List Corner) (vs : List (List ℤ)) → ArePrinted cs vs → Each IsInSteps cs → Each (λ v. IsWithin (2 ^ 31) (vector_of v)) vs
+small_vectors : (cs : List Corner) (vs : List (List ℤ)) → ArePrinted cs vs → Each IsWithinReach cs → Each (λ v. IsWithin (2 ^ 31) (vector_of v)) vs
 small_vectors [] [] e s = tt
 small_vectors [] (v ∷ vs) e s = cc
 small_vectors (c ∷ cs) [] e s = cc
@@ -154,9 +153,9 @@ first_small : (vs : List (List ℤ)) → Each (λ v. IsWithin (2 ^ 31) (vector_o
 first_small [] e = record { x = omega (arith, ints); y = omega (arith, ints); z = omega (arith, ints) }
 first_small (v ∷ vs) e = e.0
 
-pub are_near : (cs : List Corner) (vs : List (List ℤ)) → ArePrinted cs vs → All IsInSteps cs → AreNear vs
+pub are_near : (cs : List Corner) (vs : List (List ℤ)) → ArePrinted cs vs → All IsWithinReach cs → AreNear vs
 are_near cs vs e steps =
-    let small = small_vectors cs vs e (each_from_all IsInSteps cs steps) in
+    let small = small_vectors cs vs e (each_from_all IsWithinReach cs steps) in
     All-weaker (λ v. IsWithin (2 ^ 31) (vector_of v)) (λ v. IsWithin (2 ^ 37) (minus (vector_of v) (vector_at vs 0))) (λ v h. near (vector_of v) (vector_at vs 0) h (first_small vs small)) vs
     (all_from_each (λ v. IsWithin (2 ^ 31) (vector_of v)) vs small)
 

@@ -10,7 +10,7 @@ use Rattle.spec_page.specs.Faces.{lies_on}
 use Rattle.plane_core.specs.declared.numbers.Plane.{Plane as BookPlane}
 use Rattle.plane_core.specs.declared.numbers.Corner.{Corner}
 use Rattle.plane_core.specs.Views.{plane_of}
-use Rattle.poly_frag.specs.Cycles.{IsFragment, AreCorners}
+use Rattle.poly_frag.specs.Cycles.{IsFragment}
 use Rattle.poly_frag.specs.declared.frag.Frag.{Frag}
 use Rattle.plane_pieces.specs.Points.{holds}
 use Rattle.plane_pieces.specs.declared.sides.Piece.{Piece}
@@ -19,20 +19,13 @@ use Rattle.exact_mesh.specs.declared.mesh.ExactMesh.{ExactMesh}
 use Rattle.piece_mesh.specs.Builders.{AreDistinct, AreUsed}
 use Rattle.piece_mesh.specs.Pieces.{IsFaceOf}
 
--- no coordinate has a size above 2^20 grid steps
-pub record IsInSteps (c : Corner) : Type 0 where
-  pub x : unsigned_abs c.x ≤ 2 ^ 20 * unsigned_abs c.w
-  pub y : unsigned_abs c.y ≤ 2 ^ 20 * unsigned_abs c.w
-  pub z : unsigned_abs c.z ≤ 2 ^ 20 * unsigned_abs c.w
-
--- the face is a piece of a plane of the numbers from 6 on, and its corners lie within the steps
+-- the face is a piece of a plane of the numbers from 6 on
 pub record IsPieceFace (planes : List BookPlane) (corners : List Corner) (face : Face) : Type 0 where
   pub frag : Frag
   pub front_out : Bool
   pub fragment : IsFragment planes frag
   pub no_wall : 6 ≤ frag.support.k
   pub is_face : IsFaceOf planes frag front_out corners face
-  pub steps : (cs : List Corner) → AreCorners planes frag cs → All IsInSteps cs
 
 -- corners and faces of pieces
 pub record IsPartMesh (planes : List BookPlane) (corners : List Corner) (faces : List Face) : Type 0 where

@@ -3,8 +3,7 @@ ghost use Rattle.spec_page.specs.Element.{world_frame};
 ghost use Rattle.spec_page.specs.World.{rounded_image};
 ghost use Rattle.plane_core.specs.Views.{point_of};
 ghost use Rattle.exact_mesh.specs.Meshes.{vector_of};
-ghost use Rattle.exact_mesh.specs.Ranges.{IsWithin};
-ghost use Rattle.plain_engine.specs.Parts.{IsInSteps};
+ghost use Rattle.piece_mesh.specs.Sizes.{IsWithinReach};
 
 use piece_mesh::printed;
 use plane_core::Corner;
@@ -13,7 +12,7 @@ use std::alloc::{AllocError, Global};
 
 /// The corner in whole micrometres.
 fn print_corner(corner: &Corner) -> [i128; 3]
-    requires steps { IsInSteps corner.now }
+    requires reach { IsWithinReach corner.now }
     ensures { vector_of result ≡ rounded_image world_frame 1000 (point_of corner.now) }
 {
     let Vector { x, y, z } = printed(corner);
@@ -25,7 +24,7 @@ pub(crate) fn print_corners(
     alloc: Global,
     corners: &[Corner],
 ) -> Result<Vec<[i128; 3]>, AllocError>
-    requires steps { All IsInSteps corners.now }
+    requires reach { All IsWithinReach corners.now }
     ensures { IfOk result (λ printed. map vector_of printed.items ≡ map (λ c. rounded_image world_frame 1000 (point_of c)) corners.now) }
 {
     let mut printed = Vec::new(alloc);

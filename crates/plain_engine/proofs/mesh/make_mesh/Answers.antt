@@ -5,26 +5,26 @@ use Rattle.box_solids.specs.Views.{tree_of}
 use Rattle.exact_mesh.specs.Meshes.{face_of, mesh_volume}
 use Rattle.exact_mesh.specs.Ranges.{AreNear}
 use Rattle.exact_mesh.specs.declared.mesh.MeshFace.{MeshFace}
-use Rattle.plain_engine.specs.Parts.{IsInSteps}
+use Rattle.piece_mesh.specs.Sizes.{IsWithinReach}
 use Rattle.plain_engine.specs.declared.mesh.PrintedMesh.{PrintedMesh}
-use Rattle.plain_engine.proofs.Printing.{image, ArePrinted, corners_in_steps, are_near, places_within, print_of}
+use Rattle.plain_engine.proofs.Printing.{image, ArePrinted, corners_in_reach, are_near, places_within, print_of}
 use Rattle.plain_engine.proofs.mesh.make_mesh.Goals as goal
 
 pub print_corners-requires : goal.print_corners-requires
 print_corners-requires c =
     let m = c.in_ok-mesh.mesh in
-    record { steps = subst (All IsInSteps) (sym c.deref.ensures.value) (corners_in_steps c.in_ok-book.book m.corners.items (map face_of m.faces.items) c.in_ok-mesh.ensures.part) }
+    record { reach = subst (All IsWithinReach) (sym c.deref.ensures.value) (corners_in_reach c.in_ok-book.book m.corners.items (map face_of m.faces.items) c.in_ok-mesh.ensures.part) }
 
 pub sixfold-six-requires : goal.sixfold-six-requires
 sixfold-six-requires c =
     let m = c.in_ok-mesh.mesh in
     let vs = c.in_ok-printed.printed.items in
-    let steps = corners_in_steps c.in_ok-book.book m.corners.items (map face_of m.faces.items) c.in_ok-mesh.ensures.part in
+    let reach = corners_in_reach c.in_ok-book.book m.corners.items (map face_of m.faces.items) c.in_ok-mesh.ensures.part in
     let printed : ArePrinted m.corners.items vs = c.in_ok-printed.ensures ∙ ap (map image) c.deref.ensures.value in
     record {
       within = subst (λ ns. All (λ (f : MeshFace). All (λ i. i < length ns) f.corners.items) c.deref-3.result.now) (sym c.deref-2.ensures.value)
           (subst (All (λ (f : MeshFace). All (λ i. i < length vs) f.corners.items)) (sym c.deref-3.ensures.value) (places_within c.in_ok-book.book m.corners.items vs m.faces.items printed c.in_ok-mesh.ensures.part));
-      near = subst AreNear (sym c.deref-2.ensures.value) (are_near m.corners.items vs printed steps);
+      near = subst AreNear (sym c.deref-2.ensures.value) (are_near m.corners.items vs printed reach);
     }
 
 pub returns : goal.returns

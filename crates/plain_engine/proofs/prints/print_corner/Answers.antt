@@ -4,11 +4,8 @@ use Rattle.exact_mesh.specs.Ranges.{IsWithin}
 use Rattle.plain_engine.proofs.Printing.{image_size}
 use Rattle.plain_engine.proofs.prints.print_corner.Goals as goal
 
-pub printed-x-requires : goal.printed-x-requires
-printed-x-requires c = record { x = c.requires.steps.x; y = c.requires.steps.y; z = c.requires.steps.z }
-
 pub returns : goal.returns
 returns c =
     let v = c.printed-x.result in
-    let small = subst (IsWithin (2 ^ 31)) (sym c.printed-x.ensures) (image_size c.args.corner.now c.requires.steps) in
+    let small = subst (IsWithin (2 ^ 31)) (sym c.printed-x.ensures) (image_size c.args.corner.now c.requires.reach) in
     (λ i. record { x = (arg v.x small.x tt).is i; y = (arg v.y small.y tt).is i; z = (arg v.z small.z tt).is i }) ∙ c.printed-x.ensures

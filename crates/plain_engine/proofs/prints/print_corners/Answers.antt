@@ -1,6 +1,6 @@
 use Rattle.std.proofs.Common.{sym, subst}
 use Rattle.std.proofs.lemmas.List.Elements.{All-get_or}
-use Rattle.plain_engine.specs.Parts.{IsInSteps}
+use Rattle.piece_mesh.specs.Sizes.{IsWithinReach}
 use Rattle.plain_engine.proofs.Printing.{next_printed, all_printed}
 use Rattle.plain_engine.proofs.prints.print_corners.Goals as goal
 
@@ -11,7 +11,7 @@ loop-corner-preserved c =
 
 pub print_corner-requires : goal.print_corner-requires
 print_corner-requires c = record {
-  steps = subst IsInSteps (sym c.corner-item.is) (All-get_or IsInSteps c.args.corners.now c.loop-corner.corner-index c.corner-item.result c.loop-corner-test.true c.requires.steps);
+  reach = subst IsWithinReach (sym c.corner-item.is) (All-get_or IsWithinReach c.args.corners.now c.loop-corner.corner-index c.corner-item.result c.loop-corner-test.true c.requires.reach);
 }
 
 pub returns : goal.returns
