@@ -1,0 +1,4 @@
+pub mod Flags
+pub mod Boundaries
+pub mod Planes
+pub mod Printing

@@ -1,0 +1,36 @@
+ghost use Rattle.std.specs.Prelude.{◌≤◌, ◌^◌, length, IfOk};
+ghost use Rattle.spec_headline.specs.Headline.{IsPrintOf};
+ghost use Rattle.box_solids.specs.Trees.{body_of, planes_of};
+ghost use Rattle.box_solids.specs.Views.{tree_of};
+ghost use Rattle.plain_engine.specs.Prints.{element_of};
+
+use crate::faces::exact;
+use crate::prints::print_corners;
+use box_solids::{BoxSolid, plane_book};
+use exact_mesh::{ExactMesh, sixfold};
+use std::alloc::{AllocError, Global};
+
+/// The mesh of an element in the frame of the world.
+#[derive(Drop)]
+pub struct PrintedMesh {
+    /// Its exact corners in grid steps of 1000 micrometres, and its faces.
+    pub mesh: ExactMesh,
+    /// For each corner its place in whole micrometres, a half rounded up.
+    pub printed: Vec<[i128; 3]>,
+    /// The sixfold volume of the printed mesh in cubic micrometres; `None` where it passes 128 bits.
+    pub six: Option<i128>,
+}
+
+/// The mesh of a solid of boxes on the grid of 1000 micrometres, by the plainest engine: each plane of the element is cut by
+/// all others within the enclosing cube, and a piece is a face where the meaning differs across it. Corners stand in the order
+/// of their first use, each once (rules of this project). The error is want of memory.
+pub fn make_mesh(alloc: Global, solid: &BoxSolid) -> Result<PrintedMesh, AllocError>
+    requires room { length (planes_of (tree_of solid.now)) ≤ 2 ^ 30 }
+    ensures print { IfOk result (λ m. IsPrintOf (body_of (tree_of solid.now)) 1000 (element_of m)) }
+{
+    let book = plane_book(alloc, solid)?;
+    let mesh = exact(alloc, &book, solid)?;
+    let printed = print_corners(alloc, &mesh.corners)?;
+    let six = sixfold(&printed, &mesh.faces);
+    Ok(PrintedMesh { mesh, printed, six })
+}
