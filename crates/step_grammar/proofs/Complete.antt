@@ -1,16 +1,16 @@
 -- The tokens of a file lead behind its last semicolon.
-use Rattle.std.proofs.Common.{◌≡◌, ℕ, List, [], ◌∷◌, ◌++◌, Option, Some, None, All, map, codes, refl, sym, ◌∙◌, ap, append_assoc, append-nil}
+use Rattle.std.proofs.Common.{◌≡◌, ℕ, List, [], ◌∷◌, ◌++◌, Some, All, codes, refl, sym, ◌∙◌, ap, append_assoc, append-nil}
 use Rattle.std.proofs.lemmas.List.Elements.{All-head, All-tail}
 use Rattle.std.specs.List.{flat_map}
 use Rattle.spec_step.specs.Lexemes.{Lexeme}
-use Rattle.spec_step.specs.Grammar.{Want, start_word, end_word, word, mark, spanned, head_keyword, number, ending, IsAs, semicolon, equals, opening, closing, arguments, entry_spelling, head_spelling, body_spelling, instance_spelling, section_end, file_start, data_start, file_end, file_spelling, HasEntry, IsDerived}
+use Rattle.spec_step.specs.Grammar.{ending, semicolon, closing, entry_spelling, head_spelling, body_spelling, instance_spelling, file_start, data_start, file_end, file_spelling, HasEntry, IsDerived}
 use Rattle.spec_step.specs.declared.token.Span.{Span}
 use Rattle.spec_step.specs.declared.token.TokenKind.TheVariants as kind
 use Rattle.spec_step.specs.declared.tree.Entry.{Entry}
 use Rattle.spec_step.specs.declared.tree.Body.{Body}
 use Rattle.spec_step.specs.declared.tree.Body.TheVariants as body
 use Rattle.spec_step.specs.declared.tree.Instance.{Instance}
-use Rattle.step_grammar.specs.Symbols.{symbol_of, name_of}
+use Rattle.step_grammar.specs.Symbols.{name_of}
 use Rattle.step_grammar.specs.Entries.{Stand, entry_step}
 use Rattle.step_grammar.specs.Places.{State, start, step, in_entry, at_place}
 use Rattle.step_grammar.specs.Runs.{runs, whole}
@@ -75,6 +75,7 @@ lead_semicolon q next h = lead_cons (λ l k. ap (step q) (as_mark 59 l k) ∙ h 
 
 -- The header.
 
+-- one entry more
 lead_head_entry : (e : Entry) (head : List Entry) → Leads (plain place.Head head []) (head_spelling e) (plain place.Head (head ++ e ∷ []) [])
 lead_head_entry e head =
     lead_cons (λ l h. ap (step (plain place.Head head [])) (as_head e.keyword l h) ∙ ap (λ p. at_place (plain place.Head head []) (Some p)) (head_begins e.keyword l h))
@@ -103,12 +104,13 @@ lead_parts key head instances (x ∷ es) done e =
     lead_as (plain (place.Closed key (done ++ e ∷ x ∷ es)) head instances) (flat_map entry_spelling (x ∷ es) ++ closing ∷ [])
     (append_assoc (entry_spelling x) (flat_map entry_spelling es) (closing ∷ [])) (ap (λ y. plain (place.Closed key y) head instances) (append_assoc done (e ∷ []) (x ∷ es)))
     (lead_both
-      (lead_entry (in_complex key (done ++ e ∷ []) head instances) (complex_carries key (done ++ e ∷ []) head instances) (in_complex key done head instances (spot.Read e, [])) (λ l p. refl) x)
-      (lead_parts key head instances es (done ++ e ∷ []) x))
+    (lead_entry (in_complex key (done ++ e ∷ []) head instances) (complex_carries key (done ++ e ∷ []) head instances) (in_complex key done head instances (spot.Read e, [])) (λ l p. refl) x)
+    (lead_parts key head instances es (done ++ e ∷ []) x))
 
 abbrev made : Key → Body → ℕ → Instance
 made key b end = record { number = key.number; body = b; from = key.from; end = end }
 
+-- what stands behind the `=` of an instance
 lead_body : (key : Key) (b : Body) (end : ℕ) (head : List Entry) (instances : List Instance) → HasEntry b
     → Leads (plain (place.Equated key) head instances) (body_spelling b ++ ending end ∷ []) (plain place.Instances head (instances ++ made key b end ∷ []))
 lead_body key (body.Simple e) end head instances h =
@@ -118,10 +120,10 @@ lead_body key (body.Complex []) end head instances h = absurd (h refl)
 lead_body key (body.Complex (e ∷ es)) end head instances h =
     lead_both
     (lead_cons (λ l k. ap (step (plain (place.Equated key) head instances)) (as_mark 40 l k))
-      (lead_as (plain (place.Closed key (e ∷ es)) head instances) ((entry_spelling e ++ flat_map entry_spelling es) ++ closing ∷ [])
-        (append_assoc (entry_spelling e) (flat_map entry_spelling es) (closing ∷ [])) refl
-        (lead_both (lead_entry (in_complex key [] head instances) (complex_carries key [] head instances) (plain (place.Opened key) head instances) (λ l p. refl) e)
-          (lead_parts key head instances es [] e))))
+    (lead_as (plain (place.Closed key (e ∷ es)) head instances) ((entry_spelling e ++ flat_map entry_spelling es) ++ closing ∷ [])
+    (append_assoc (entry_spelling e) (flat_map entry_spelling es) (closing ∷ [])) refl
+    (lead_both (lead_entry (in_complex key [] head instances) (complex_carries key [] head instances) (plain (place.Opened key) head instances) (λ l p. refl) e)
+    (lead_parts key head instances es [] e))))
     (lead_cons (λ l k. ap (step (plain (place.Closed key (e ∷ es)) head instances)) (as_ending end l k)) lead_nil)
 
 lead_instance : (i : Instance) (head : List Entry) (instances : List Instance) → HasEntry i.body
@@ -137,7 +139,7 @@ lead_instances [] head instances h = lead_as (plain place.Instances head (instan
 lead_instances (i ∷ is) head instances h =
     lead_as (plain place.Instances head (instances ++ i ∷ is)) (flat_map instance_spelling (i ∷ is)) refl (ap (plain place.Instances head) (append_assoc instances (i ∷ []) is))
     (lead_both (lead_instance i head instances (All-head (λ (i : Instance). HasEntry i.body) i is h))
-      (lead_instances is head (instances ++ i ∷ []) (All-tail (λ (i : Instance). HasEntry i.body) i is h)))
+    (lead_instances is head (instances ++ i ∷ []) (All-tail (λ (i : Instance). HasEntry i.body) i is h)))
 
 -- The file.
 
@@ -166,5 +168,6 @@ lead_file : (head : List Entry) (instances : List Instance) → All (λ (i : Ins
 lead_file head instances h =
     lead_both (lead_both (lead_both (lead_both lead_start (lead_heads head [])) (lead_data head)) (lead_instances instances head [] h)) (lead_end head instances)
 
+-- the tokens of a file lead behind its last semicolon, and give its trees
 pub complete_is : (ls : List Lexeme) (head : List Entry) (instances : List Instance) → IsDerived ls head instances → runs ls ≡ Some (whole head instances)
 complete_is ls head instances h = (lead_file head instances h.entries).leads ls h.tokens

@@ -1,5 +1,5 @@
 -- The machine counts the parentheses that stand open.
-use Rattle.std.proofs.Common.{◌≡◌, ℕ, ◌+◌, ◌-◌, suc, true, false, List, [], ◌∷◌, Option, Some, None, All, map, length, refl, sym, ◌∙◌, ap, arith, subst}
+use Rattle.std.proofs.Common.{◌≡◌, ℕ, ◌+◌, ◌-◌, true, false, List, [], ◌∷◌, Option, Some, None, All, map, length, refl, sym, ◌∙◌, ap, arith, subst}
 use Rattle.std.proofs.lemmas.Bool.{true≢false, and_parts}
 use Rattle.std.proofs.lemmas.List.Elements.{All-head, All-tail}
 use Rattle.spec_step.specs.Spelling.{is_spelled, is_mark}
@@ -62,10 +62,12 @@ token_change kind.Mark p (b ∷ c ∷ cs) h n = absurd (true≢false (sym (and_p
 
 -- In an entry, where others stand open around it.
 
+-- where the step exists, this many are open behind it
 abbrev CountsStand : ℕ → ℕ → Option Stand → Type 0
 CountsStand a n None = Unit {0}
 CountsStand a n (Some stand) = length stand.1 + a ≡ n
 
+-- the steps of each place in an entry change the count by their symbol
 count_named : (a : ℕ) (k : Span) (frames : List Frame) (s : Symbol) → CountsStand a (change s (length frames + a)) (step_named k frames s)
 count_named a k frames symbol.Open = omega arith
 count_named a k frames s = tt
@@ -124,10 +126,12 @@ count_entry a (spot.Read e) frames s = tt
 
 -- In a file.
 
+-- the same of a state
 abbrev Counts : ℕ → Option State → Type 0
 Counts n None = Unit {0}
 Counts n (Some q) = open_at q ≡ n
 
+-- a count in an entry is one in the file
 count_in_head : (q : State) (n : ℕ) (o : Option Stand) → CountsStand 0 n o → Counts n (in_entry q place.HeadEntry o)
 count_in_head q n None h = tt
 count_in_head q n (Some stand) h = h
@@ -140,6 +144,7 @@ count_in_complex : (q : State) (key : Key) (es : List Entry) (n : ℕ) (o : Opti
 count_in_complex q key es n None h = tt
 count_in_complex q key es n (Some stand) h = h
 
+-- the steps of each place in a file change the count by their symbol
 count_fixed : (q : State) (f : Fixed) (s : Symbol) → Counts (change s (length q.frames + 0)) (at_place q (step_fixed f s))
 count_fixed q fixed.StartWord symbol.StartWord = refl
 count_fixed q fixed.StartWord s = tt
@@ -239,6 +244,7 @@ count_step q (place.Closed key es) s = count_behind_body q key _ s
 
 -- Over tokens.
 
+-- the tokens change a right count to a right one
 depth_from : (o : Option State) (n : ℕ) (ls : List Lexeme) (q : State) → Counts n o → All IsToken ls → run_on o (map symbol_of ls) ≡ Some q → open_behind n ls ≡ open_at q
 depth_from None n ls q c are h = absurd (cc)
 depth_from (Some p) n [] q c are h = let same : p ≡ q = cc in sym c ∙ ap open_at same
@@ -248,5 +254,6 @@ depth_from (Some p) n (l ∷ ls) q c are h =
     depth_from (step p (symbol_of l)) (open_after n l) ls q
     (subst (λ m. Counts m (step p (symbol_of l))) counted (count_step p p.place (symbol_of l))) (All-tail IsToken l ls are) h
 
+-- from the first token on
 pub depth_is : (ls : List Lexeme) (q : State) → All IsToken ls → runs ls ≡ Some q → open_behind 0 ls ≡ open_at q
 depth_is ls q are h = depth_from (Some start) 0 ls q refl are h

@@ -1,9 +1,8 @@
 -- From each place some tokens lead behind the last semicolon of a file.
-use Rattle.std.proofs.Common.{◌≡◌, ℕ, List, [], ◌∷◌, ◌++◌, Option, Some, None, All, map, codes, refl, sym, ◌∙◌, ap, subst}
+use Rattle.std.proofs.Common.{◌≡◌, ℕ, List, [], ◌∷◌, ◌++◌, Some, All, map, codes, refl, sym, ◌∙◌, ap, subst}
 use Rattle.std.proofs.lemmas.List.Elements.{All-nil, All-cons, All-append}
 use Rattle.spec_step.specs.Lexemes.{Lexeme, IsToken}
 use Rattle.spec_step.specs.Files.{BeginsFile}
-use Rattle.spec_step.specs.declared.token.Span.{Span}
 use Rattle.spec_step.specs.declared.token.TokenKind.{TokenKind}
 use Rattle.spec_step.specs.declared.token.TokenKind.TheVariants as kind
 use Rattle.spec_step.specs.declared.tree.Param.{Param}
@@ -13,7 +12,7 @@ use Rattle.spec_step.specs.declared.tree.Body.TheVariants as body
 use Rattle.spec_step.specs.declared.tree.Instance.{Instance}
 use Rattle.step_grammar.specs.Symbols.{symbol_of}
 use Rattle.step_grammar.specs.Entries.{Stand, entry_step, with_last}
-use Rattle.step_grammar.specs.Places.{State, start, step, run_on, with_entry, with_head_entry, with_instance}
+use Rattle.step_grammar.specs.Places.{State, start, step, run_on, with_instance}
 use Rattle.step_grammar.specs.Runs.{runs, whole}
 use Rattle.step_grammar.specs.declared.symbol.Symbol.{Symbol}
 use Rattle.step_grammar.specs.declared.entry.Frame.{Frame}
@@ -30,6 +29,7 @@ use Rattle.step_grammar.proofs.Frames.{InEntry, FitsSpot, FitsFixed, FitsAt, fit
 use Rattle.step_grammar.proofs.Leads.{run_on-append, map_both}
 use Rattle.step_grammar.proofs.Sound.{sound_is}
 
+-- some tokens end a file from here
 record Ends (q : State) : Type 0 where
   more : List Lexeme
   head : List Entry
@@ -66,6 +66,7 @@ a_dollar = token kind.Mark (codes "$")
 
 -- Between the parts of a file.
 
+-- each place from the next
 end_nothing : (head : List Entry) (instances : List Instance) → Ends (plain (place.Fixed fixed.Nothing) head instances)
 end_nothing head instances = record { more = []; head = head; instances = instances; tokens = All-nil IsToken; run = refl }
 
@@ -116,13 +117,13 @@ end_closed key es head instances =
 -- Entries, wherever they stand.
 module _ (f : Stand → State) (carries : (p : Spot) (frames : List Frame) (s : Symbol) (next : Stand) → entry_step p frames s ≡ Some next → step (f (p, frames)) s ≡ Some (f next))
     (ends : (e : Entry) → Ends (f (spot.Read e, []))) where
-
   end_by : (p : Spot) (frames : List Frame) (next : Stand) (l : Lexeme) → IsToken l → entry_step p frames (symbol_of l) ≡ Some next → Ends (f next) → Ends (f (p, frames))
   end_by p frames next l is e h = end_step (f (p, frames)) (f next) l is (carries p frames (symbol_of l) next e) h
 
   end_read : (e : Entry) (frames : List Frame) → frames ≡ [] → Ends (f (spot.Read e, frames))
   end_read e frames h = subst (λ (x : List Frame). Ends (f (spot.Read e, x))) (sym h) (ends e)
 
+  -- behind a parameter all that is open is closed
   end_behind : (frames : List Frame) (p : Param) → InEntry frames → Ends (f (spot.Behind p, frames))
   end_behind [] p h = absurd h
   end_behind (frame.List ps ∷ frames) p h =
@@ -156,15 +157,15 @@ end_simple : (key : Key) (head : List Entry) (instances : List Instance) (p : Sp
 end_simple key head instances =
     end_entry (in_simple key head instances) (simple_carries key head instances)
     (λ e.
-      let q : State = in_simple key head instances (spot.Read e, []) in
-      end_step q (with_instance key (body.Simple e) 0 q) a_semicolon refl refl (end_instances head (with_instance key (body.Simple e) 0 q).instances))
+    let q : State = in_simple key head instances (spot.Read e, []) in
+    end_step q (with_instance key (body.Simple e) 0 q) a_semicolon refl refl (end_instances head (with_instance key (body.Simple e) 0 q).instances))
 
 end_complex : (key : Key) (es : List Entry) (head : List Entry) (instances : List Instance) (p : Spot) (frames : List Frame)
     → FitsSpot p frames → Ends (in_complex key es head instances (p, frames))
 end_complex key es head instances =
     end_entry (in_complex key es head instances) (complex_carries key es head instances)
     (λ e. end_step (in_complex key es head instances (spot.Read e, [])) (plain (place.Closed key (es ++ e ∷ [])) head instances) a_closing refl refl
-      (end_closed key (es ++ e ∷ []) head instances))
+    (end_closed key (es ++ e ∷ []) head instances))
 
 abbrev a_keyword : Lexeme
 a_keyword = token kind.Keyword (codes "A")

@@ -1,5 +1,5 @@
 -- Which parentheses stand open at a place, and what is whole there.
-use Rattle.std.proofs.Common.{◌≡◌, ℕ, List, [], ◌∷◌, ◌++◌, Option, Some, None, All, map, refl, sym, ◌∙◌, ap, subst}
+use Rattle.std.proofs.Common.{◌≡◌, List, [], ◌∷◌, Option, Some, None, All, map, refl, sym, subst}
 use Rattle.std.proofs.lemmas.List.Elements.{All-nil, All-push}
 use Rattle.spec_step.specs.Lexemes.{Lexeme}
 use Rattle.spec_step.specs.Grammar.{HasEntry}
@@ -44,10 +44,12 @@ FitsSpot (spot.Typed k) frames = InEntry frames
 FitsSpot (spot.Behind p) frames = InEntry frames
 FitsSpot (spot.Read e) frames = frames ≡ []
 
+-- where the step exists, what is open behind it fits its place
 abbrev FitsStand : Option Stand → Type 0
 FitsStand None = Unit {0}
 FitsStand (Some stand) = FitsSpot stand.0 stand.1
 
+-- the steps of each place in an entry keep that
 fit_named : (k : Span) (frames : List Frame) (s : Symbol) → frames ≡ [] → FitsStand (step_named k frames s)
 fit_named k frames symbol.Open h = h
 fit_named k frames s h = tt
@@ -106,10 +108,11 @@ fit_entry (spot.Read e) frames s h = tt
 
 -- In a file.
 
--- nothing of the header and of the instances is read, or nothing of the instances
+-- nothing of the header and of the instances is read
 abbrev pub Fresh : State → Type 0
 Fresh q = (q.frames ≡ []) × (q.head ≡ []) × (q.instances ≡ [])
 
+-- nothing of the instances is read
 abbrev pub InHeader : State → Type 0
 InHeader q = (q.frames ≡ []) × (q.instances ≡ [])
 
@@ -117,9 +120,11 @@ InHeader q = (q.frames ≡ []) × (q.instances ≡ [])
 abbrev pub HaveEntries : List Instance → Type 0
 HaveEntries instances = All (λ (i : Instance). HasEntry i.body) instances
 
+-- the instances that are read have entries
 abbrev pub InInstances : State → Type 0
 InInstances q = (q.frames ≡ []) × HaveEntries q.instances
 
+-- what can be open and read between the parts of a file
 abbrev pub FitsFixed : Fixed → State → Type 0
 FitsFixed fixed.StartWord q = Fresh q
 FitsFixed fixed.StartEnd q = Fresh q
@@ -149,10 +154,12 @@ FitsAt (place.Closed key es) q = (q.frames ≡ []) × HaveEntries q.instances ×
 abbrev pub Fits : State → Type 0
 Fits q = FitsAt q.place q
 
+-- where the step exists, what is read behind it fits its place
 abbrev pub FitsState : Option State → Type 0
 FitsState None = Unit {0}
 FitsState (Some q) = Fits q
 
+-- the steps of each place in a file keep that
 fit_fixed : (q : State) (f : Fixed) (s : Symbol) → FitsFixed f q → FitsState (at_place q (step_fixed f s))
 fit_fixed q fixed.StartWord symbol.StartWord h = h
 fit_fixed q fixed.StartWord s h = tt
@@ -209,6 +216,7 @@ fit_behind_body : (q : State) (key : Key) (b : Body) (s : Symbol) → InInstance
 fit_behind_body q key b (symbol.Semicolon end) h k = (h.0, All-push (λ (i : Instance). HasEntry i.body) q.instances (record { number = key.number; body = b; from = key.from; end = end }) h.1 k)
 fit_behind_body q key b s h k = tt
 
+-- entries with one more are some
 has_last : (es : List Entry) (e : Entry) → with_entry es e ≡ [] → ⊥
 has_last [] e h = cc
 has_last (x ∷ es) e h = cc
@@ -286,7 +294,7 @@ whole_at : (p : Place) (frames : List Frame) (head : List Entry) (instances : Li
     → p ≡ place.Fixed fixed.Nothing → record { place = p; frames = frames; head = head; instances = instances } ≡ whole head instances
 whole_at p frames head instances h e =
     let none : InInstances (record { place = p; frames = frames; head = head; instances = instances }) =
-        subst (λ (x : Place). FitsAt x (record { place = p; frames = frames; head = head; instances = instances })) e h in
+    subst (λ (x : Place). FitsAt x (record { place = p; frames = frames; head = head; instances = instances })) e h in
     let empty : frames ≡ [] = none.0 in
     cc
 

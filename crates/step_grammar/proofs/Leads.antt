@@ -1,9 +1,8 @@
 -- What is spelled leads from the place before it to the place behind it.
-use Rattle.std.proofs.Common.{◌≡◌, ℕ, List, [], ◌∷◌, ◌++◌, Option, Some, None, All, map, codes, refl, sym, ◌∙◌, ap, subst, append_assoc, append-nil}
-use Rattle.std.proofs.lemmas.List.Elements.{All-head, All-tail}
-use Rattle.std.specs.List.{AllZip, flat_map}
+use Rattle.std.proofs.Common.{◌≡◌, ℕ, List, [], ◌∷◌, ◌++◌, Option, Some, None, map, refl, sym, ◌∙◌, ap, subst, append_assoc}
+use Rattle.std.specs.List.{AllZip}
 use Rattle.spec_step.specs.Lexemes.{Lexeme}
-use Rattle.spec_step.specs.Grammar.{Want, start_word, end_word, word, mark, spanned, head_keyword, reference, number, ending, IsAs, semicolon, equals, opening, closing, comma, members, further, layer_spelling, spelling, arguments, entry_spelling, head_spelling, body_spelling, instance_spelling, section_end, file_start, data_start, file_end, file_spelling, HasEntry, IsDerived}
+use Rattle.spec_step.specs.Grammar.{Want, mark, spanned, reference, IsAs, opening, closing, members, further, layer_spelling, spelling, arguments}
 use Rattle.spec_step.specs.declared.token.Span.{Span}
 use Rattle.spec_step.specs.declared.token.TokenKind.TheVariants as kind
 use Rattle.spec_step.specs.declared.tree.Param.{Param}
@@ -12,14 +11,9 @@ use Rattle.spec_step.specs.declared.tree.Param.TheVariants as param
 use Rattle.spec_step.specs.declared.tree.Param.TheOpen.{Param-F}
 use Rattle.spec_step.specs.declared.tree.Param.TheOpen as layer
 use Rattle.spec_step.specs.declared.tree.Param.TheFolds.{ind-Param, fold-roll-Param, map-Param}
-use Rattle.spec_step.specs.declared.tree.Entry.{Entry}
-use Rattle.spec_step.specs.declared.tree.Body.{Body}
-use Rattle.spec_step.specs.declared.tree.Body.TheVariants as body
-use Rattle.spec_step.specs.declared.tree.Instance.{Instance}
 use Rattle.step_grammar.specs.Symbols.{symbol_of}
 use Rattle.step_grammar.specs.Entries.{Stand, entry_step}
-use Rattle.step_grammar.specs.Places.{State, start, step, run_on, in_entry, at_place}
-use Rattle.step_grammar.specs.Runs.{runs, whole}
+use Rattle.step_grammar.specs.Places.{State, step, run_on}
 use Rattle.step_grammar.specs.declared.symbol.Atom.TheVariants as atom
 use Rattle.step_grammar.specs.declared.symbol.Symbol.{Symbol}
 use Rattle.step_grammar.specs.declared.symbol.Symbol.TheVariants as symbol
@@ -27,17 +21,14 @@ use Rattle.step_grammar.specs.declared.entry.Frame.{Frame}
 use Rattle.step_grammar.specs.declared.entry.Frame.TheVariants as frame
 use Rattle.step_grammar.specs.declared.entry.Spot.{Spot}
 use Rattle.step_grammar.specs.declared.entry.Spot.TheVariants as spot
-use Rattle.step_grammar.specs.declared.place.Fixed.TheVariants as fixed
-use Rattle.step_grammar.specs.declared.place.Key.{Key}
-use Rattle.step_grammar.specs.declared.place.Place.{Place}
-use Rattle.step_grammar.specs.declared.place.Place.TheVariants as place
-use Rattle.step_grammar.proofs.Said.{as_kind, as_mark, as_ending, as_spanned, as_reference, as_number, as_word, as_head, head_begins}
+use Rattle.step_grammar.proofs.Said.{as_mark, as_spanned, as_reference}
 
 -- Tokens that are as wanted lead from one state to another.
 
 pub record Leads (q : State) (ws : List Want) (next : State) : Type 0 where
   pub leads : (ls : List Lexeme) → AllZip IsAs ws ls → run_on (Some q) (map symbol_of ls) ≡ Some next
 
+-- a run over two lists of symbols, one after the other
 pub run_on-append : (o : Option State) (xs ys : List Symbol) → run_on o (xs ++ ys) ≡ run_on (run_on o xs) ys
 run_on-append None xs ys = refl
 run_on-append (Some p) [] ys = refl
@@ -93,7 +84,6 @@ lead_as {q} {next} {ws} other vs e f h = subst (Leads q vs) f (subst (λ x. Lead
 
 -- Entries, wherever they stand: the state is a function of the place in the entry, and takes an entry's steps.
 module _ (f : Stand → State) (carries : (p : Spot) (frames : List Frame) (s : Symbol) (next : Stand) → entry_step p frames s ≡ Some next → step (f (p, frames)) s ≡ Some (f next)) where
-
   -- the tokens lead over a parameter, also where it is the first of a list
   record Over (ws : List Want) (p : Param) : Type 0 where
     wanted : (frames : List Frame) → Leads (f (spot.Before, frames)) ws (f (spot.Behind p, frames))
@@ -133,6 +123,7 @@ module _ (f : Stand → State) (carries : (p : Spot) (frames : List Frame) (s : 
   of_entry : (k : Span) → Brackets (frame.Entry k) (λ ps. spot.Read (record { keyword = k; params = ps }))
   of_entry k = record { empty = λ frames. refl; last = λ p ps frames. refl; more = λ p ps frames. refl }
 
+  -- the rest of a list, behind its parameter p
   lead_further : (open_at : List Param → Frame) (shut : List Param → Spot) → Brackets open_at shut → (es : List Known) (ps : List Param) (p : Param) (frames : List Frame)
       → Leads (f (spot.Behind p, open_at ps ∷ frames)) (further (map known_spelling es)) (f (shut (ps ++ p ∷ map known_param es), frames))
   lead_further open_at shut b [] ps p frames = lead_cons (by_mark 41 symbol.Close (spot.Behind p) (open_at ps ∷ frames) _ (as_mark 41) (b.last p ps frames)) lead_nil
@@ -140,8 +131,9 @@ module _ (f : Stand → State) (carries : (p : Spot) (frames : List Frame) (s : 
       lead_cons (by_mark 44 symbol.Comma (spot.Behind p) (open_at ps ∷ frames) (spot.Before, open_at (ps ++ p ∷ []) ∷ frames) (as_mark 44) (b.more p ps frames))
       (lead_both (e.1.wanted (open_at (ps ++ p ∷ []) ∷ frames))
       (subst (λ x. Leads (f (spot.Behind e.0, open_at (ps ++ p ∷ []) ∷ frames)) (further (map known_spelling es)) (f (shut x, frames)))
-          (append_assoc ps (p ∷ []) (e.0 ∷ map known_param es)) (lead_further open_at shut b es (ps ++ p ∷ []) e.0 frames)))
+      (append_assoc ps (p ∷ []) (e.0 ∷ map known_param es)) (lead_further open_at shut b es (ps ++ p ∷ []) e.0 frames)))
 
+  -- all that stands behind an opening parenthesis
   lead_members : (open_at : List Param → Frame) (shut : List Param → Spot) → Brackets open_at shut → (es : List Known) (frames : List Frame)
       → Leads (f (spot.Opened, open_at [] ∷ frames)) (members (map known_spelling es)) (f (shut (map known_param es), frames))
   lead_members open_at shut b [] frames = lead_cons (by_mark 41 symbol.Close spot.Opened (open_at [] ∷ frames) _ (as_mark 41) (b.empty frames)) lead_nil
@@ -164,6 +156,7 @@ module _ (f : Stand → State) (carries : (p : Spot) (frames : List Frame) (s : 
     first = λ frames. lead_cons (λ l h. ap (step (f (spot.Opened, frames))) (as_spanned kind.Keyword k l h) ∙ carries spot.Opened frames _ (spot.Typed k, frames) refl) (lead_typed k e frames);
   }
 
+  -- one layer of a parameter, whose children carry what is known of them
   over_layer : (y : Param-F Known) → Over (layer_spelling (map-Param Known (List Want) known_spelling y)) (rolled.roll-Param (map-Param Known Param known_param y))
   unfolding rolled.roll-Param denote.Hole.Carrier.roll
   over_layer layer.Unset = over_token (mark 36) param.Unset (λ l. symbol.Atom atom.Unset) (as_mark 36) (λ l frames. refl) (λ l frames. refl)
@@ -218,4 +211,4 @@ module _ (f : Stand → State) (carries : (p : Spot) (frames : List Frame) (s : 
   lead_arguments k ps =
       lead_cons (by_mark 40 symbol.Open (spot.Named k) [] (spot.Opened, frame.Entry k [] ∷ []) (as_mark 40) refl)
       (lead_as (f (spot.Read (record { keyword = k; params = ps }), [])) (members (map spelling ps)) (ap members (sym (known_spellings ps)))
-          (ap (λ (x : List Param). f (spot.Read (record { keyword = k; params = x }), [])) (known_params ps)) (lead_members (frame.Entry k) _ (of_entry k) (known ps) []))
+      (ap (λ (x : List Param). f (spot.Read (record { keyword = k; params = x }), [])) (known_params ps)) (lead_members (frame.Entry k) _ (of_entry k) (known ps) []))

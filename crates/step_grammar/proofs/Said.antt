@@ -1,10 +1,9 @@
 -- The symbol of a token that is as wanted.
-use Rattle.std.proofs.Common.{◌≡◌, ℕ, Bool, true, false, List, [], ◌∷◌, drop, get_or, codes, if◌then◌else◌, refl, sym, ◌∙◌, ap}
+use Rattle.std.proofs.Common.{◌≡◌, ℕ, Bool, true, false, List, get_or, codes, if◌then◌else◌, refl, ◌∙◌, ap}
 use Rattle.std.proofs.lemmas.Slice.Eq.{bytes_eq-Decides}
 use Rattle.std.specs.Str.{str_eq_ignore_ascii_case, str_to_ascii_lowercase, bytes_eq}
-use Rattle.spec_num.specs.Decimals.{value}
 use Rattle.spec_step.specs.Lexemes.{Lexeme}
-use Rattle.spec_step.specs.Grammar.{Want, start_word, end_word, word, mark, spanned, head_keyword, reference, number, ending, IsAs, is_word}
+use Rattle.spec_step.specs.Grammar.{word, mark, spanned, head_keyword, reference, number, ending, IsAs, is_word}
 use Rattle.spec_step.specs.declared.token.Span.{Span}
 use Rattle.spec_step.specs.declared.token.TokenKind.{TokenKind}
 use Rattle.spec_step.specs.declared.token.TokenKind.TheVariants as kind
@@ -43,6 +42,7 @@ name_of_small text =
     else (if bytes_eq text (str_to_ascii_lowercase (codes "DATA")) then name.Data
     else name.Other))
 
+-- what passes the test is equal
 same_bytes : (a b : List ℕ) → bytes_eq a b ≡ true → a ≡ b
 same_bytes a b h = (bytes_eq-Decides a b).0 h
 
@@ -55,6 +55,7 @@ as_word w l h = as_kind kind.Keyword l h.0 ∙ ap (symbol.Keyword l.span) (same_
 pub as_head : (p : Span) (l : Lexeme) → IsAs (head_keyword p) l → symbol_of l ≡ symbol.Keyword p (name_of l.text)
 as_head p l h = as_spanned kind.Keyword p l (h.0, h.1)
 
+-- what the name of another word leads to
 head_chosen : (p : Span) (a b c : Bool) → a ≡ false → head_keyword_place p (if a then name.EndSection else (if b then name.Header else (if c then name.Data else name.Other))) ≡ place.HeadEntry (spot.Named p)
 head_chosen p true b c h = absurd (cc)
 head_chosen p false true c h = refl

@@ -1,9 +1,9 @@
 -- What was read so far, as the grammar wants it, and that each step adds one token.
-use Rattle.std.proofs.Common.{◌≡◌, ℕ, List, [], ◌∷◌, ◌++◌, Option, Some, None, map, codes, refl, sym, ◌∙◌, ap, append_assoc, append-nil}
+use Rattle.std.proofs.Common.{◌≡◌, ℕ, List, [], ◌∷◌, ◌++◌, Option, Some, None, map, codes, refl, sym, ◌∙◌, ap, append_assoc}
 use Rattle.std.proofs.lemmas.List.{flat_map_more}
 use Rattle.std.specs.List.{flat_map}
 use Rattle.spec_step.specs.Lexemes.{Lexeme}
-use Rattle.spec_step.specs.Grammar.{Want, start_word, end_word, word, mark, spanned, head_keyword, reference, number, ending, IsAs, semicolon, equals, opening, closing, comma, members, further, layer_spelling, spelling, arguments, entry_spelling, head_spelling, body_spelling, instance_spelling, section_end, file_start, data_start, file_end, file_spelling}
+use Rattle.spec_step.specs.Grammar.{Want, start_word, end_word, word, spanned, head_keyword, reference, number, ending, IsAs, semicolon, equals, opening, closing, comma, members, further, layer_spelling, spelling, arguments, entry_spelling, head_spelling, body_spelling, instance_spelling, section_end, file_start, data_start, file_end, file_spelling}
 use Rattle.spec_step.specs.declared.token.Span.{Span}
 use Rattle.spec_step.specs.declared.token.TokenKind.TheVariants as kind
 use Rattle.spec_step.specs.declared.tree.Param.{Param}
@@ -16,7 +16,7 @@ use Rattle.spec_step.specs.declared.tree.Body.{Body}
 use Rattle.spec_step.specs.declared.tree.Body.TheVariants as body
 use Rattle.spec_step.specs.declared.tree.Instance.{Instance}
 use Rattle.step_grammar.specs.Entries.{Stand, entry_step, step_named, step_before, step_opened, step_typed, step_behind, close_empty, close, go_on, param_of}
-use Rattle.step_grammar.specs.Places.{State, step, step_at, step_fixed, step_head, step_instances, step_numbered, step_equated, step_opened_instance, step_head_entry, step_simple, step_complex, behind_head_entry, behind_body, behind_part, at_place, in_entry, with_entry}
+use Rattle.step_grammar.specs.Places.{State, step_at, step_fixed, step_head, step_instances, step_numbered, step_equated, step_opened_instance, step_head_entry, step_simple, step_complex, behind_head_entry, behind_body, behind_part, at_place, in_entry, with_entry}
 use Rattle.step_grammar.specs.declared.symbol.Atom.{Atom}
 use Rattle.step_grammar.specs.declared.symbol.Atom.TheVariants as atom
 use Rattle.step_grammar.specs.declared.symbol.Name.TheVariants as name
@@ -31,11 +31,12 @@ use Rattle.step_grammar.specs.declared.place.Fixed.TheVariants as fixed
 use Rattle.step_grammar.specs.declared.place.Key.{Key}
 use Rattle.step_grammar.specs.declared.place.Place.{Place}
 use Rattle.step_grammar.specs.declared.place.Place.TheVariants as place
-use Rattle.step_grammar.proofs.Frames.{FitsSpot, FitsFixed, FitsAt, HaveEntries}
+use Rattle.step_grammar.proofs.Frames.{FitsSpot, FitsFixed, FitsAt}
 use Rattle.step_grammar.proofs.Spoken.{Spoken, atom_want, semicolon_ends, is_end_section, is_header, is_data, is_head}
 
 -- Parameters.
 
+-- the spelling of each kind of parameter
 pub spelling_list : (ps : List Param) → spelling (param.List ps) ≡ opening ∷ members (map spelling ps)
 unfolding rolled.roll-Param denote.Hole.Carrier.roll
 spelling_list ps = fold-roll-Param (List Want) layer_spelling (layer.List ps)
@@ -63,6 +64,7 @@ abbrev listed : List Param → List Want
 listed [] = []
 listed (p ∷ ps) = spelling p ++ (comma ∷ listed ps)
 
+-- one parameter more, and what stands behind it
 listed_last : (ps : List Param) (p : Param) → listed (ps ++ p ∷ []) ≡ listed ps ++ (spelling p ++ comma ∷ [])
 listed_last [] p = refl
 listed_last (x ∷ ps) p = ap (λ l. spelling x ++ (comma ∷ l)) (listed_last ps p) ∙ sym (append_assoc (spelling x) (comma ∷ listed ps) (spelling p ++ comma ∷ []))
@@ -86,6 +88,7 @@ before first (frame.Entry k ps ∷ frames) = before first frames ++ (first k ∷
 before first (frame.List ps ∷ frames) = before first frames ++ (opening ∷ listed ps)
 before first (frame.Typed k ∷ frames) = before first frames ++ (spanned kind.Keyword k ∷ opening ∷ [])
 
+-- what was read of an entry
 abbrev read_entry : (Span → Want) → Spot → List Frame → List Want
 read_entry first (spot.Named k) frames = before first frames ++ first k ∷ []
 read_entry first spot.Opened frames = before first frames
@@ -94,10 +97,12 @@ read_entry first (spot.Typed k) frames = before first frames ++ spanned kind.Key
 read_entry first (spot.Behind p) frames = before first frames ++ spelling p
 read_entry first (spot.Read e) frames = before first frames ++ (first e.keyword ∷ arguments e.params)
 
+-- where the step exists, its token is as some want says that is added to what was read
 abbrev AddsStand : (Span → Want) → Lexeme → List Want → Option Stand → Type 0
 AddsStand first l ws None = Unit {0}
 AddsStand first l ws (Some stand) = (w : Want) × IsAs w l × (read_entry first stand.0 stand.1 ≡ ws ++ w ∷ [])
 
+-- so it is at each place in an entry
 add_named : (first : Span → Want) (k : Span) (frames : List Frame) (s : Symbol) (l : Lexeme) → Spoken s l → AddsStand first l (read_entry first (spot.Named k) frames) (step_named k frames s)
 add_named first k frames symbol.Open l h = (opening, h, sym (append_assoc (before first frames) (first k ∷ []) (opening ∷ [])))
 add_named first k frames s l h = tt
@@ -135,15 +140,24 @@ regroup a b c d = sym (simp append_assoc)
 
 add_close : (first : Span → Want) (p : Param) (frames : List Frame) (l : Lexeme) → IsAs closing l → AddsStand first l (before first frames ++ spelling p) (close p frames)
 add_close first p [] l h = tt
-add_close first p (frame.List ps ∷ frames) l h =
-    (closing, h, ap (λ x. before first frames ++ x) (spelling_list (ps ++ p ∷ []) ∙ ap (λ x. opening ∷ x) (members_last ps p))
-        ∙ regroup (before first frames) (opening ∷ listed ps) (spelling p) (closing ∷ []))
-add_close first p (frame.Typed k ∷ frames) l h =
-    (closing, h, ap (λ x. before first frames ++ x) (spelling_typed k p)
-        ∙ regroup (before first frames) (spanned kind.Keyword k ∷ opening ∷ []) (spelling p) (closing ∷ []))
-add_close first p (frame.Entry k ps ∷ frames) l h =
-    (closing, h, ap (λ x. before first frames ++ (first k ∷ opening ∷ x)) (members_last ps p)
-        ∙ regroup (before first frames) (first k ∷ opening ∷ listed ps) (spelling p) (closing ∷ []))
+add_close first p (frame.List ps ∷ frames) l h = (
+  closing,
+  h,
+  ap (λ x. before first frames ++ x) (spelling_list (ps ++ p ∷ []) ∙ ap (λ x. opening ∷ x) (members_last ps p))
+      ∙ regroup (before first frames) (opening ∷ listed ps) (spelling p) (closing ∷ []),
+)
+add_close first p (frame.Typed k ∷ frames) l h = (
+  closing,
+  h,
+  ap (λ x. before first frames ++ x) (spelling_typed k p)
+      ∙ regroup (before first frames) (spanned kind.Keyword k ∷ opening ∷ []) (spelling p) (closing ∷ []),
+)
+add_close first p (frame.Entry k ps ∷ frames) l h = (
+  closing,
+  h,
+  ap (λ x. before first frames ++ (first k ∷ opening ∷ x)) (members_last ps p)
+      ∙ regroup (before first frames) (first k ∷ opening ∷ listed ps) (spelling p) (closing ∷ []),
+)
 
 add_go_on : (first : Span → Want) (p : Param) (frames : List Frame) (l : Lexeme) → IsAs comma l → AddsStand first l (before first frames ++ spelling p) (go_on p frames)
 add_go_on first p [] l h = tt
@@ -179,6 +193,7 @@ dated head instances = headed head ++ (data_start ++ flat_map instance_spelling 
 pub file_is : (head : List Entry) (instances : List Instance) → dated head instances ++ file_end ≡ file_spelling head instances
 file_is head instances = ap (λ x. x ++ file_end) (sym (append_assoc (headed head) data_start (flat_map instance_spelling instances)))
 
+-- what was read so far, place by place
 abbrev read_fixed : Fixed → State → List Want
 read_fixed fixed.StartWord q = []
 read_fixed fixed.StartEnd q = start_word ∷ []
@@ -212,10 +227,12 @@ read_at (place.Closed key es) q = dated q.head q.instances ++ keyed key (body_sp
 abbrev pub read : State → List Want
 read q = read_at q.place q
 
+-- where the step exists, its token is as some want says that is added to what was read
 abbrev pub AddsState : Lexeme → List Want → Option State → Type 0
 AddsState l ws None = Unit {0}
 AddsState l ws (Some q) = (w : Want) × IsAs w l × (read q ≡ ws ++ w ∷ [])
 
+-- so it is at each place in a file
 add_fixed : (q : State) (f : Fixed) (s : Symbol) (l : Lexeme) → FitsFixed f q → Spoken s l → AddsState l (read_fixed f q) (at_place q (step_fixed f s))
 add_fixed q fixed.StartWord symbol.StartWord l h k = (start_word, k, refl)
 add_fixed q fixed.StartWord s l h k = tt
@@ -269,10 +286,10 @@ add_numbered q key s l k = tt
 
 add_equated : (q : State) (key : Key) (s : Symbol) (l : Lexeme) → q.frames ≡ [] → Spoken s l → AddsState l (dated q.head q.instances ++ keyed key []) (at_place q (step_equated key s))
 add_equated q key (symbol.Keyword p n) l h k = (
-    spanned kind.Keyword p,
-    (k.0, k.1),
-    ap (λ x. dated q.head q.instances ++ keyed key x) (none_before (spanned kind.Keyword) q.frames (spanned kind.Keyword p ∷ []) h)
-    ∙ sym (append_assoc (dated q.head q.instances) (keyed key []) (spanned kind.Keyword p ∷ [])),
+  spanned kind.Keyword p,
+  (k.0, k.1),
+  ap (λ x. dated q.head q.instances ++ keyed key x) (none_before (spanned kind.Keyword) q.frames (spanned kind.Keyword p ∷ []) h)
+      ∙ sym (append_assoc (dated q.head q.instances) (keyed key []) (spanned kind.Keyword p ∷ [])),
 )
 add_equated q key symbol.Open l h k = (opening, k, sym (append_assoc (dated q.head q.instances) (keyed key []) (opening ∷ [])))
 add_equated q key s l h k = tt
@@ -280,10 +297,10 @@ add_equated q key s l h k = tt
 add_opened_instance : (q : State) (key : Key) (s : Symbol) (l : Lexeme) → q.frames ≡ [] → Spoken s l
     → AddsState l (dated q.head q.instances ++ keyed key (opening ∷ [])) (at_place q (step_opened_instance key s))
 add_opened_instance q key (symbol.Keyword p n) l h k = (
-    spanned kind.Keyword p,
-    (k.0, k.1),
-    ap (λ x. dated q.head q.instances ++ keyed key (opening ∷ x)) (none_before (spanned kind.Keyword) q.frames (spanned kind.Keyword p ∷ []) h)
-    ∙ sym (append_assoc (dated q.head q.instances) (keyed key (opening ∷ [])) (spanned kind.Keyword p ∷ [])),
+  spanned kind.Keyword p,
+  (k.0, k.1),
+  ap (λ x. dated q.head q.instances ++ keyed key (opening ∷ x)) (none_before (spanned kind.Keyword) q.frames (spanned kind.Keyword p ∷ []) h)
+      ∙ sym (append_assoc (dated q.head q.instances) (keyed key (opening ∷ [])) (spanned kind.Keyword p ∷ [])),
 )
 add_opened_instance q key s l h k = tt
 
@@ -294,7 +311,7 @@ add_behind_head_entry q e (symbol.Semicolon end) l h k =
       semicolon,
       semicolon_ends end l k,
       sym (flat_map_more head_spelling file_start q.head e) ∙ sym (append_assoc (headed q.head) entry (semicolon ∷ []))
-      ∙ ap (λ x. (headed q.head ++ x) ++ semicolon ∷ []) (sym (none_before head_keyword q.frames entry h)),
+          ∙ ap (λ x. (headed q.head ++ x) ++ semicolon ∷ []) (sym (none_before head_keyword q.frames entry h)),
     )
 add_behind_head_entry q e s l h k = tt
 
@@ -305,9 +322,9 @@ add_behind_body q key b (symbol.Semicolon end) l ws k e =
       ending end,
       k,
       ap (λ x. headed q.head ++ x) (sym (flat_map_more instance_spelling data_start q.instances i))
-      ∙ sym (append_assoc (headed q.head) (data_start ++ flat_map instance_spelling q.instances) (instance_spelling i))
-      ∙ sym (append_assoc (dated q.head q.instances) (keyed key (body_spelling b)) (ending end ∷ []))
-      ∙ ap (λ x. x ++ ending end ∷ []) (sym e),
+          ∙ sym (append_assoc (headed q.head) (data_start ++ flat_map instance_spelling q.instances) (instance_spelling i))
+          ∙ sym (append_assoc (dated q.head q.instances) (keyed key (body_spelling b)) (ending end ∷ []))
+          ∙ ap (λ x. x ++ ending end ∷ []) (sym e),
     )
 add_behind_body q key b s l ws k e = tt
 
@@ -327,10 +344,10 @@ part_more q key es e w h =
 add_behind_part : (q : State) (key : Key) (es : List Entry) (e : Entry) (s : Symbol) (l : Lexeme) → q.frames ≡ [] → Spoken s l
     → AddsState l (read_at (place.Complex key es (spot.Read e)) q) (behind_part q key (with_entry es e) s)
 add_behind_part q key es e (symbol.Keyword p n) l h k = (
-    spanned kind.Keyword p,
-    (k.0, k.1),
-    ap (λ x. dated q.head q.instances ++ keyed key (opening ∷ (flat_map entry_spelling (es ++ e ∷ []) ++ x))) (none_before (spanned kind.Keyword) q.frames (spanned kind.Keyword p ∷ []) h)
-    ∙ part_more q key es e (spanned kind.Keyword p) h,
+  spanned kind.Keyword p,
+  (k.0, k.1),
+  ap (λ x. dated q.head q.instances ++ keyed key (opening ∷ (flat_map entry_spelling (es ++ e ∷ []) ++ x))) (none_before (spanned kind.Keyword) q.frames (spanned kind.Keyword p ∷ []) h)
+      ∙ part_more q key es e (spanned kind.Keyword p) h,
 )
 add_behind_part q key es e symbol.Close l h k = (closing, k, part_more q key es e closing h)
 add_behind_part q key es e s l h k = tt
@@ -339,6 +356,7 @@ add_behind_part q key es e s l h k = tt
 lift : (x v ws : List Want) (w : Want) → v ≡ ws ++ w ∷ [] → x ++ v ≡ (x ++ ws) ++ w ∷ []
 lift x v ws w e = ap (λ y. x ++ y) e ∙ sym (append_assoc x ws (w ∷ []))
 
+-- what an entry's step adds is added in the file
 add_in_head : (q : State) (l : Lexeme) (ws : List Want) (o : Option Stand) → AddsStand head_keyword l ws o → AddsState l (headed q.head ++ ws) (in_entry q place.HeadEntry o)
 add_in_head q l ws None h = tt
 add_in_head q l ws (Some stand) h = (h.0, h.1, lift (headed q.head) _ ws h.0 h.2)
@@ -352,10 +370,10 @@ add_in_complex : (q : State) (key : Key) (es : List Entry) (l : Lexeme) (ws : Li
     → AddsState l (dated q.head q.instances ++ keyed key (opening ∷ (flat_map entry_spelling es ++ ws))) (in_entry q (place.Complex key es) o)
 add_in_complex q key es l ws None h = tt
 add_in_complex q key es l ws (Some stand) h = (
-    h.0,
-    h.1,
-    lift (dated q.head q.instances) _ (keyed key (opening ∷ (flat_map entry_spelling es ++ ws))) h.0
-    (ap (λ x. keyed key (opening ∷ x)) (lift (flat_map entry_spelling es) _ ws h.0 h.2)),
+  h.0,
+  h.1,
+  lift (dated q.head q.instances) _ (keyed key (opening ∷ (flat_map entry_spelling es ++ ws))) h.0
+      (ap (λ x. keyed key (opening ∷ x)) (lift (flat_map entry_spelling es) _ ws h.0 h.2)),
 )
 
 add_head_entry : (q : State) (p : Spot) (s : Symbol) (l : Lexeme) → FitsSpot p q.frames → Spoken s l → AddsState l (read_at (place.HeadEntry p) q) (step_head_entry q p s)

@@ -4,7 +4,7 @@ use Rattle.std.proofs.lemmas.Bool.{true≢false, and_parts}
 use Rattle.std.specs.Str.{str_eq_ignore_ascii_case}
 use Rattle.spec_step.specs.Spelling.{is_spelled, is_mark}
 use Rattle.spec_step.specs.Lexemes.{Lexeme, IsToken}
-use Rattle.spec_step.specs.Grammar.{Want, start_word, end_word, word, mark, spanned, head_keyword, number, ending, IsAs, is_word, equals, opening, closing, comma, semicolon}
+use Rattle.spec_step.specs.Grammar.{Want, start_word, end_word, word, mark, spanned, head_keyword, number, ending, IsAs, equals, opening, closing, comma, semicolon}
 use Rattle.spec_step.specs.declared.token.Span.{Span}
 use Rattle.spec_step.specs.declared.token.TokenKind.{TokenKind}
 use Rattle.spec_step.specs.declared.token.TokenKind.TheVariants as kind
@@ -27,6 +27,7 @@ atom_want (atom.Text p) = spanned kind.Text p
 atom_want (atom.Enumeration p) = spanned kind.Enumeration p
 atom_want (atom.Binary p) = spanned kind.Binary p
 
+-- the token is as its symbol says
 abbrev pub Spoken : Symbol → Lexeme → Type 0
 Spoken symbol.StartWord l = IsAs start_word l
 Spoken symbol.EndWord l = IsAs end_word l
@@ -39,6 +40,7 @@ Spoken symbol.Open l = IsAs opening l
 Spoken symbol.Close l = IsAs closing l
 Spoken symbol.Comma l = IsAs comma l
 
+-- so is each, kind by kind and mark by mark
 spoken_by : (k : TokenKind) (p : Span) (text : List ℕ) → is_spelled k text ≡ true → Spoken (symbol_by k p text) (record { kind = k; span = p; text = text })
 spoken_by kind.StartWord p text h = refl
 spoken_by kind.EndWord p text h = refl
@@ -67,6 +69,7 @@ semicolon_ends end l h = (h.0, h.1)
 abbrev chosen : Bool → Bool → Bool → Name
 chosen a b c = if a then name.EndSection else (if b then name.Header else (if c then name.Data else name.Other))
 
+-- which test chose a name
 first_chosen : (a b c : Bool) → chosen a b c ≡ name.EndSection → a ≡ true
 first_chosen true b c h = refl
 first_chosen false true c h = absurd (cc)
@@ -92,6 +95,7 @@ other_chosen false b c h = refl
 abbrev same : List ℕ → List ℕ → Bool
 same = str_eq_ignore_ascii_case
 
+-- a keyword of this name is that word
 pub is_end_section : (p : Span) (l : Lexeme) → Spoken (symbol.Keyword p name.EndSection) l → IsAs (word (codes "ENDSEC")) l
 is_end_section p l h = (h.0, first_chosen (same l.text (codes "ENDSEC")) (same l.text (codes "HEADER")) (same l.text (codes "DATA")) h.2)
 
