@@ -15,7 +15,7 @@ use ix_outside::{Source, TakeFault, read_whole};
 use plain_engine::{PrintedMesh, make_mesh};
 use spec_run::Outcome;
 use std::alloc::{AllocError, Global};
-use step_text::{PlainFault, Plain, plain_file};
+use step_text::{Plain, PlainFault, plain_file};
 
 /// The greatest number of bytes that are read.
 const MOST_BYTES: usize = 1 << 27;

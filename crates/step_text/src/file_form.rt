@@ -12,9 +12,9 @@ ghost use Rattle.step_text.specs.FileForm.{IsTokenIn, IfNotBuilt, IsRead, AreRea
 use crate::known::KnownLines;
 use crate::lines::{Head, begun, line_of, read_head};
 use crate::plain::{Departure, end_behind, follow};
+use crate::plain_fault::PlainFault;
 use crate::rules::{check_line, is_solid, number_in};
 use crate::slots::{expect, fill, line_slots};
-use crate::plain_fault::PlainFault;
 use spec_step::{Begun, LineKind, PlainLine, Slot, Token};
 use std::alloc::{AllocError, Global};
 

@@ -32,6 +32,6 @@ pub use spec_step::{
 };
 
 #[cfg(test)]
-mod tests;
-#[cfg(test)]
 mod form_tests;
+#[cfg(test)]
+mod tests;
