@@ -3,7 +3,7 @@ use box_solids::{BoxSolid, Operator};
 use spec_space::Vector;
 use std::alloc::{AllocError, Global};
 use std::test::Fail;
-use step_text::wide_file;
+use step_text::plain_file;
 
 const HEAD: &[u8] =
     b"ISO-10303-21;HEADER;FILE_DESCRIPTION((''),'2;1');FILE_NAME('','',(''),(''),'','','');FILE_SCHEMA(('IFC4'));ENDSEC;DATA;
@@ -19,7 +19,7 @@ fn solid(alloc: Global, lines: &[u8]) -> Result<BoxSolid, Fail> {
     let mut file = Vec::from_slice(alloc, HEAD)?;
     file.extend_from_slice(lines)?;
     file.extend_from_slice(TAIL)?;
-    let plain = wide_file(alloc, &file)?;
+    let plain = plain_file(alloc, &file)?;
     Ok(solid_of_lines(alloc, &file, &plain.lines, plain.item)?)
 }
 

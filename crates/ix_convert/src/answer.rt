@@ -15,7 +15,7 @@ use ix_outside::{Source, TakeFault, read_whole};
 use plain_engine::{PrintedMesh, make_mesh};
 use spec_run::Outcome;
 use std::alloc::{AllocError, Global};
-use step_text::{WideFault, WidePlain, wide_file};
+use step_text::{Plain, PlainFault, plain_file};
 
 /// The greatest number of bytes that are read.
 const MOST_BYTES: usize = 1 << 27;
@@ -32,7 +32,7 @@ fn counts(mesh: &PrintedMesh) -> (usize, usize)
 }
 
 /// The mesh of the wall of a file that keeps the rules. The error is want of memory.
-fn wall_mesh(alloc: Global, source: &[u8], plain: &WidePlain) -> Result<PrintedMesh, AllocError>
+fn wall_mesh(alloc: Global, source: &[u8], plain: &Plain) -> Result<PrintedMesh, AllocError>
     requires { AreLines source.now plain.now.lines.items plain.now.item }
     ensures { IfOk result (λ mesh. IsPrintOf (wall_body source.now plain.now.lines.items plain.now.item) 1000 (element_of mesh)) }
 {
@@ -48,10 +48,10 @@ fn convert(alloc: Global, source: &[u8], page: &mut Vec<u8>) -> Outcome
     ensures calm { result ≢ Outcome.ReadFault }
     ensures blank { (IsPage result ⊎ (result ≡ Outcome.NoMemory)) ⊎ (page.new.items ≡ []) }
 {
-    let plain = match wide_file(alloc, source) {
+    let plain = match plain_file(alloc, source) {
         Ok(plain) => plain,
-        Err(WideFault::NotBuilt { at }) => return Outcome::NotBuilt { at },
-        Err(WideFault::NoMemory) => return Outcome::NoMemory,
+        Err(PlainFault::NotBuilt { at }) => return Outcome::NotBuilt { at },
+        Err(PlainFault::NoMemory) => return Outcome::NoMemory,
     };
     let Ok(mesh) = wall_mesh(alloc, source, &plain) else {
         return Outcome::NoMemory;

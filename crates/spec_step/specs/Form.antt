@@ -65,11 +65,6 @@ is_as_in part f s (Got t) = is_same part f s t
 is_as_in part f s (Bad at) = false
 is_as_in part f s End = false
 
-abbrev pub is_number_step : TokenStep → Bool
-is_number_step (Got t) = is_number t.kind
-is_number_step (Bad at) = false
-is_number_step End = false
-
 abbrev pub is_name_step : TokenStep → Bool
 is_name_step (Got t) = is_name t.kind
 is_name_step (Bad at) = false
@@ -97,47 +92,24 @@ Leaves part s at place =
     (n : ℕ) × (j : ℕ) × (to : ℕ) × (f : Token) × (step : TokenStep) × Matches n part 0 j s at to
     × IsNext part j (Got f) × IsNext s to step × (is_as_in part f s step ≡ false) × (place ≡ place_of s step)
 
--- a form is made of the tokens of some texts, of numbers, and of names of lines as `#10`
+-- a form is made of the tokens of some texts, and of names of lines as `#10`
 pub data Piece : Type 0 where
   Fixed : List ℕ → Piece
-  AnyNumber : Piece
   AnyName : Piece
 
--- the tokens of the text from a place to its end have the form, and these are its numbers and names
+-- the tokens of the text from a place to its end have the form, and these are its names
 abbrev pub HasForm : List Piece → List ℕ → ℕ → List Span → Type 0
-HasForm [] s at numbers = (numbers ≡ []) × IsNext s at End
-HasForm (Fixed part ∷ form) s at numbers = (to : ℕ) × Follows part s at to × HasForm form s to numbers
-HasForm (AnyNumber ∷ form) s at numbers =
-    (t : Token) × (rest : List Span) × IsNext s at (Got t) × (is_number t.kind ≡ true)
-    × (numbers ≡ record { from = t.from; end = t.end } ∷ rest) × HasForm form s t.end rest
-HasForm (AnyName ∷ form) s at numbers =
+HasForm [] s at names = (names ≡ []) × IsNext s at End
+HasForm (Fixed part ∷ form) s at names = (to : ℕ) × Follows part s at to × HasForm form s to names
+HasForm (AnyName ∷ form) s at names =
     (t : Token) × (rest : List Span) × IsNext s at (Got t) × (is_name t.kind ≡ true)
-    × (numbers ≡ record { from = t.from; end = t.end } ∷ rest) × HasForm form s t.end rest
+    × (names ≡ record { from = t.from; end = t.end } ∷ rest) × HasForm form s t.end rest
 
 -- here the text departs from the form: at the first byte where no token begins, at the first token that is not the
 -- form's, or at the end where the text ends too early
 abbrev pub Departs : List Piece → List ℕ → ℕ → ℕ → Type 0
 Departs [] s at place = (step : TokenStep) × IsNext s at step × (step ≡ End → ⊥) × (place ≡ place_of s step)
 Departs (Fixed part ∷ form) s at place = Leaves part s at place ⊎ ((to : ℕ) × Follows part s at to × Departs form s to place)
-Departs (AnyNumber ∷ form) s at place =
-    ((step : TokenStep) × IsNext s at step × (is_number_step step ≡ false) × (place ≡ place_of s step))
-    ⊎ ((t : Token) × IsNext s at (Got t) × (is_number t.kind ≡ true) × Departs form s t.end place)
 Departs (AnyName ∷ form) s at place =
     ((step : TokenStep) × IsNext s at step × (is_name_step step ≡ false) × (place ≡ place_of s step))
     ⊎ ((t : Token) × IsNext s at (Got t) × (is_name t.kind ≡ true) × Departs form s t.end place)
-
--- the form of the file of one wall, a box of three extents: one product of one extrusion of one rectangle
-unfoldable pub before_width : List ℕ
-before_width = codes "ISO-10303-21;HEADER;FILE_DESCRIPTION((''),'2;1');FILE_NAME('','',(''),(''),'','','');FILE_SCHEMA(('IFC4'));ENDSEC;DATA;#1=IFCSIUNIT(*,.LENGTHUNIT.,.MILLI.,.METRE.);#2=IFCUNITASSIGNMENT((#1));#3=IFCCARTESIANPOINT((0.,0.,0.));#4=IFCAXIS2PLACEMENT3D(#3,$,$);#5=IFCGEOMETRICREPRESENTATIONCONTEXT($,'Model',3,1.E-5,#4,$);#6=IFCPROJECT('1',$,'p',$,$,$,$,(#5),#2);#7=IFCLOCALPLACEMENT($,#4);#8=IFCDIRECTION((0.,0.,1.));#9=IFCRECTANGLEPROFILEDEF(.AREA.,$,$,"
-
-unfoldable pub before_length : List ℕ
-before_length = codes ","
-
-unfoldable pub before_height : List ℕ
-before_height = codes ");#10=IFCEXTRUDEDAREASOLID(#9,$,#8,"
-
-unfoldable pub behind_height : List ℕ
-behind_height = codes ");#11=IFCSHAPEREPRESENTATION(#5,'Body','SweptSolid',(#10));#12=IFCPRODUCTDEFINITIONSHAPE($,$,(#11));#13=IFCWALL('2',$,'w',$,$,#7,#12,$,$);ENDSEC;END-ISO-10303-21;"
-
-unfoldable pub box_form : List Piece
-box_form = Fixed before_width ∷ AnyNumber ∷ Fixed before_length ∷ AnyNumber ∷ Fixed before_height ∷ AnyNumber ∷ Fixed behind_height ∷ []

@@ -144,7 +144,7 @@ pub record IsShapeAt (s : List ℕ) (at : ℕ) (item : Span) : Type 0 where
   pub rest : HasForm shape_form s word.end (item ∷ [])
 
 -- the text is a file of these solid lines and this item
-pub record IsFile (s : List ℕ) (lines : List Stated) (item : Span) : Type 0 where
+pub record IsPlainFile (s : List ℕ) (lines : List Stated) (item : Span) : Type 0 where
   pub from : ℕ
   pub before : Follows before_lines s 0 from
   pub to : ℕ

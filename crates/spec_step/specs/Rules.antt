@@ -3,7 +3,7 @@ use Rattle.std.specs.Prelude.{◌≡◌, ℕ, ◌+◌, ◌*◌, ◌^◌, max, Bo
 use Rattle.std.specs.List.{find}
 use Rattle.spec_num.specs.Decimals.{is_negative, size_units}
 use Rattle.spec_step.specs.Form.{is_name, is_number, text_of}
-use Rattle.spec_step.specs.Lines.{Stated, IsFile, kind_of, number_in, named}
+use Rattle.spec_step.specs.Lines.{Stated, IsPlainFile, kind_of, number_in, named}
 use Rattle.spec_step.specs.declared.token.Token.{Token}
 use Rattle.spec_step.specs.declared.token.Span.{Span}
 use Rattle.spec_step.specs.declared.line.LineKind.{LineKind}
@@ -175,11 +175,11 @@ first_break s lines item =
 pub record IsKept (s : List ℕ) (lines : List PlainLine) (item : ℕ) : Type 0 where
   pub stated : List Stated
   pub name : Span
-  pub file : IsFile s stated name
+  pub file : IsPlainFile s stated name
   pub lines_said : lines ≡ said stated
   pub item_said : item ≡ named s name
   pub kept : first_break s stated name ≡ None
 
 -- the text is a file, and this is the first place at which a rule is broken
 abbrev pub BreaksAt : List ℕ → ℕ → Type 0
-BreaksAt s place = (stated : List Stated) × (item : Span) × IsFile s stated item × (first_break s stated item ≡ Some place)
+BreaksAt s place = (stated : List Stated) × (item : Span) × IsPlainFile s stated item × (first_break s stated item ≡ Some place)

@@ -12,7 +12,7 @@ use Rattle.spec_step.specs.Form.{place_of}
 use Rattle.spec_step.specs.declared.token.TokenStep.{TokenStep}
 use Rattle.spec_step.specs.declared.token.TokenStep.TheVariants.{Got}
 use Rattle.spec_step.specs.declared.line.Slot.{Slot}
-use Rattle.step_text.specs.Wide.{IsTokenIn}
+use Rattle.step_text.specs.FileForm.{IsTokenIn}
 use Rattle.step_text.proofs.Places.{got_end}
 
 pub token_in : (s : List ℕ) (from : ℕ) (t : Token) → IsNext s from (Got t) → IsTokenIn s t

@@ -21,7 +21,7 @@ use Rattle.spec_step.specs.declared.line.LineKind.TheVariants as kind
 use Rattle.spec_step.specs.declared.line.PlainLine.{PlainLine}
 use Rattle.spec_step.specs.declared.line.PlainLine.TheVariants.{Point, Axes, Block, Rect, Prism, Combine}
 use Rattle.spec_step.specs.declared.line.Known.{Known}
-use Rattle.step_text.specs.Wide.{IsTokenIn}
+use Rattle.step_text.specs.FileForm.{IsTokenIn}
 use Rattle.step_text.proofs.Filling.{token_in}
 
 -- the free slots of a line, and the tokens in them

@@ -7,7 +7,6 @@ pub mod Places
 pub mod Forms
 pub mod Whole
 pub mod Ends
-pub mod Box
 pub mod Runs
 pub mod Laws
 pub mod Capitals

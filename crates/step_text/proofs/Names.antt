@@ -12,7 +12,7 @@ use Rattle.spec_step.specs.Spelling.{by_class, is_spelled, one, up_to, done}
 use Rattle.spec_step.specs.Form.{text_of}
 use Rattle.spec_step.specs.declared.token.Token.{Token}
 use Rattle.spec_step.specs.declared.token.TokenKind.TheVariants.{Number}
-use Rattle.step_text.specs.Wide.{IsTokenIn}
+use Rattle.step_text.specs.FileForm.{IsTokenIn}
 
 digit_bounds : (b : ℕ) → is_ascii_digit b ≡ true → (48 ≤ b) × (b ≤ 57)
 digit_bounds b e = grind (arith, nat_tests)

@@ -4,7 +4,7 @@ use Rattle.std.proofs.lemmas.Bool.{true≢false}
 use Rattle.spec_step.specs.Gaps.{IsNext}
 use Rattle.spec_step.specs.Form.{place_of, HasForm}
 use Rattle.spec_step.specs.Slots.{passes, step_passes, kept, is_text, Fills, Misses}
-use Rattle.spec_step.specs.Lines.{Stated, IsHead, IsLineAt, AreLinesAt, IsShapeAt, IsFile, DepartsBehind, DepartsAt, DepartsFile, Says, begun, kind_of, span_of, named, number_in, head_slots, line_slots, before_lines, shape_form}
+use Rattle.spec_step.specs.Lines.{Stated, IsHead, IsLineAt, AreLinesAt, IsShapeAt, IsPlainFile, DepartsBehind, DepartsAt, DepartsFile, Says, begun, kind_of, span_of, named, number_in, head_slots, line_slots, before_lines, shape_form}
 use Rattle.spec_step.specs.Rules.{said, first_break, IsKept, BreaksAt}
 use Rattle.spec_step.specs.declared.token.Token.{Token}
 use Rattle.spec_step.specs.declared.token.Span.{Span}
@@ -154,7 +154,7 @@ one_course s P Q R both first second more (l' ∷ ls) (k' ∷ ks) from a b h at_
     subst (λ x. R (l' ∷ ls) (x ∷ ks)) same.0 (more l' ls ks (one_course s P Q R both first second more ls ks h.0 a b h.2 at_p rest at_q))
 
 -- a text is one file
-pub one_file : (s : List ℕ) (lines others : List Stated) (item other : Span) → IsFile s lines item → IsFile s others other → (lines ≡ others) × (item ≡ other)
+pub one_file : (s : List ℕ) (lines others : List Stated) (item other : Span) → IsPlainFile s lines item → IsPlainFile s others other → (lines ≡ others) × (item ≡ other)
 one_file s lines others item other p q =
     one_course s (λ at. IsShapeAt s at item) (λ at. IsShapeAt s at other) (λ ls ks. (ls ≡ ks) × (item ≡ other))
     (λ at h k. (refl, one_shape s at item other h k))
@@ -177,7 +177,7 @@ one_place s p q (inr h) (inr k) =
     h.1 k.1 h.0 h.2 k.2 h.4 h.5 (subst (λ x. AreLinesAt s x k.1 k.2) (one_follow before_lines s 0 k.0 h.0 k.3 h.3) k.4) k.5
 
 -- and a text that departs from the form is no file
-pub no_both : (s : List ℕ) (lines : List Stated) (item : Span) (p : ℕ) → IsFile s lines item → DepartsFile s p → ⊥
+pub no_both : (s : List ℕ) (lines : List Stated) (item : Span) (p : ℕ) → IsPlainFile s lines item → DepartsFile s p → ⊥
 no_both s lines item p h (inl k) = follows_or_leaves before_lines s 0 h.from p h.before k
 no_both s lines item p h (inr k) =
     one_course s (λ at. IsShapeAt s at item) (λ at. DepartsAt s at p) (λ ls ks. ⊥)
@@ -193,7 +193,7 @@ one_reading s lines others item other p q =
     let same = one_file s p.stated q.stated p.name q.name p.file q.file in
     (p.lines_said ∙ ap said same.0 ∙ sym q.lines_said, p.item_said ∙ ap (named s) same.1 ∙ sym q.item_said)
 
-same_break : (s : List ℕ) (lines others : List Stated) (item other : Span) → IsFile s lines item → IsFile s others other → first_break s lines item ≡ first_break s others other
+same_break : (s : List ℕ) (lines others : List Stated) (item other : Span) → IsPlainFile s lines item → IsPlainFile s others other → first_break s lines item ≡ first_break s others other
 same_break s lines others item other p q =
     let same = one_file s lines others item other p q in
     ap (λ x. first_break s x item) same.0 ∙ ap (first_break s others) same.1

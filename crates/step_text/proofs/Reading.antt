@@ -3,7 +3,7 @@ use Rattle.std.proofs.Common.{ℕ, ◌≡◌, true, false, List, [], ◌∷◌, 
 use Rattle.spec_step.specs.Gaps.{IsNext}
 use Rattle.spec_step.specs.Form.{Fixed, Follows, Leaves, HasForm, Departs, is_name, is_name_step, place_of}
 use Rattle.spec_step.specs.Slots.{Fills, Misses, step_passes}
-use Rattle.spec_step.specs.Lines.{Stated, IsHead, IsLineAt, AreLinesAt, IsFile, DepartsBehind, DepartsFile, Says, begun, kind_of, span_of, number_in, head_slots, line_slots, before_lines, before_item, behind_item, shape_form}
+use Rattle.spec_step.specs.Lines.{Stated, IsHead, IsLineAt, AreLinesAt, IsPlainFile, DepartsBehind, DepartsFile, Says, begun, kind_of, span_of, number_in, head_slots, line_slots, before_lines, before_item, behind_item, shape_form}
 use Rattle.spec_step.specs.Rules.{or_then, unless, look, is_of, is_solid, entry, known_after, line_break, lines_break, said, first_break, IsKept, BreaksAt}
 use Rattle.spec_step.specs.declared.token.Token.{Token}
 use Rattle.spec_step.specs.declared.token.TokenStep.{TokenStep}
@@ -14,9 +14,9 @@ use Rattle.spec_step.specs.declared.line.PlainLine.{PlainLine}
 use Rattle.spec_step.specs.declared.line.Known.{Known}
 use Rattle.spec_step.specs.declared.line.Begun.{Begun}
 use Rattle.spec_step.specs.declared.line.Begun.TheVariants.{Solid, Shape}
-use Rattle.step_text.specs.Wide.{IfNotBuilt, IsRead, AreReadToShape, DepartsBehindLines}
-use Rattle.step_text.specs.declared.wide_fault.WideFault.{WideFault}
-use Rattle.step_text.specs.declared.wide_fault.WideFault.TheVariants.{NotBuilt, NoMemory}
+use Rattle.step_text.specs.FileForm.{IfNotBuilt, IsRead, AreReadToShape, DepartsBehindLines}
+use Rattle.step_text.specs.declared.plain_fault.PlainFault.{PlainFault}
+use Rattle.step_text.specs.declared.plain_fault.PlainFault.TheVariants.{NotBuilt, NoMemory}
 
 pub or_then-none : (a : Option ℕ) → or_then a None ≡ a
 or_then-none None = refl
@@ -129,7 +129,7 @@ pub line_departs : (s : List ℕ) (from at place : ℕ) (lines : List PlainLine)
 line_departs s from at place lines known broken name word found h head is departs =
     (h.stated, at, h.stand, inr (name, word, head, subst (λ x. DepartsBehind x s word place) is departs))
 
-pub not_built_on : (fault : WideFault) (P Q : ℕ → Type 0) → ((at : ℕ) → P at → Q at) → IfNotBuilt fault P → IfNotBuilt fault Q
+pub not_built_on : (fault : PlainFault) (P Q : ℕ → Type 0) → ((at : ℕ) → P at → Q at) → IfNotBuilt fault P → IfNotBuilt fault Q
 not_built_on (NotBuilt at) P Q f h = f at h
 not_built_on NoMemory P Q f h = h
 
@@ -147,7 +147,7 @@ shape_departs s from end place lines known broken front (to, name, word, read, h
     (line_departs s from to place lines known broken name word Shape read head (sym is) (subst (λ x. Departs shape_form s x place) ends h))
 
 file_of : (s : List ℕ) (from end : ℕ) (lines : List PlainLine) (known : List Known) (broken : Option ℕ) (item : Token)
-    → Follows before_lines s 0 from → (h : AreReadToShape s from lines known broken end) → HasForm shape_form s end (span_of item ∷ []) → IsFile s h.3.stated (span_of item)
+    → Follows before_lines s 0 from → (h : AreReadToShape s from lines known broken end) → HasForm shape_form s end (span_of item ∷ []) → IsPlainFile s h.3.stated (span_of item)
 file_of s from end lines known broken item front (to, name, word, read, head, is, ends) rest = record {
   from = from;
   before = front;

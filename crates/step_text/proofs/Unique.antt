@@ -10,7 +10,7 @@ use Rattle.spec_step.specs.declared.token.TokenStep.TheVariants.{Got, Bad, End}
 use Rattle.spec_step.specs.Spelling.{by_class, is_spelled, one}
 use Rattle.spec_step.specs.Longest.{IsLongest, NoToken}
 use Rattle.spec_step.specs.Gaps.{is_blank, IsPiece, Pieces, IsComment, IsBlankAt, GapEnds, IsNext}
-use Rattle.spec_step.specs.Form.{Piece, Fixed, AnyNumber, AnyName, is_same, is_as_in, is_name, is_name_step, is_number, is_number_step, place_of, Matches, Follows, Leaves, HasForm, Departs}
+use Rattle.spec_step.specs.Form.{Piece, Fixed, AnyName, is_same, is_as_in, is_name, is_name_step, place_of, Matches, Follows, Leaves, HasForm, Departs}
 use Rattle.step_text.specs.declared.machine.State.{State}
 use Rattle.step_text.specs.declared.machine.State.TheVariants.{Start}
 use Rattle.step_text.specs.Machine.{step_of, accepted}
@@ -258,21 +258,14 @@ follows_or_leaves part s at p q h k =
     (λ j to f t g a. goes_or_leaves part s j to f t q g a)
     h.0 k.0 0 at h.1 p k.1 k.2 h.2 (h.3, refl) k.5 (k.3, k.4, k.6, k.7, k.8, k.9)
 
-number_or_none : (s : List ℕ) (at : ℕ) (t : Token) (step : TokenStep) → IsNext s at (Got t) → is_number t.kind ≡ true → IsNext s at step → is_number_step step ≡ false → ⊥
-number_or_none s at t step p is q none = true≢false (sym is ∙ ap is_number_step (one_next s at (Got t) step p q) ∙ none)
-
 name_or_none : (s : List ℕ) (at : ℕ) (t : Token) (step : TokenStep) → IsNext s at (Got t) → is_name t.kind ≡ true → IsNext s at step → is_name_step step ≡ false → ⊥
 name_or_none s at t step p is q none = true≢false (sym is ∙ ap is_name_step (one_next s at (Got t) step p q) ∙ none)
 
--- a text that has a form has one list of numbers
+-- a text that has a form has one list of names
 pub one_form : (form : List Piece) (s : List ℕ) (at : ℕ) (xs ys : List Span) → HasForm form s at xs → HasForm form s at ys → xs ≡ ys
 one_form [] s at xs ys p q = p.0 ∙ sym q.0
 one_form (Fixed part ∷ form) s at xs ys p q =
     one_form form s p.0 xs ys p.2 (subst (λ x. HasForm form s x ys) (one_follow part s at q.0 p.0 q.1 p.1) q.2)
-one_form (AnyNumber ∷ form) s at xs ys p q =
-    let same_token : q.0 ≡ p.0 = one_got s at q.0 p.0 q.2 p.2 in
-    let rest : p.1 ≡ q.1 = one_form form s p.0.end p.1 q.1 p.5 (subst (λ (x : Token). HasForm form s x.end q.1) same_token q.5) in
-    cc
 one_form (AnyName ∷ form) s at xs ys p q =
     let same_token : q.0 ≡ p.0 = one_got s at q.0 p.0 q.2 p.2 in
     let rest : p.1 ≡ q.1 = one_form form s p.0.end p.1 q.1 p.5 (subst (λ (x : Token). HasForm form s x.end q.1) same_token q.5) in
@@ -286,11 +279,6 @@ one_departure (Fixed part ∷ form) s at p q (inl h) (inr k) = absurd (follows_o
 one_departure (Fixed part ∷ form) s at p q (inr h) (inl k) = absurd (follows_or_leaves part s at h.0 q h.1 k)
 one_departure (Fixed part ∷ form) s at p q (inr h) (inr k) =
     one_departure form s h.0 p q h.2 (subst (λ x. Departs form s x q) (one_follow part s at k.0 h.0 k.1 h.1) k.2)
-one_departure (AnyNumber ∷ form) s at p q (inl h) (inl k) = h.3 ∙ ap (place_of s) (one_next s at h.0 k.0 h.1 k.1) ∙ sym k.3
-one_departure (AnyNumber ∷ form) s at p q (inl h) (inr k) = absurd (number_or_none s at k.0 h.0 k.1 k.2 h.1 h.2)
-one_departure (AnyNumber ∷ form) s at p q (inr h) (inl k) = absurd (number_or_none s at h.0 k.0 h.1 h.2 k.1 k.2)
-one_departure (AnyNumber ∷ form) s at p q (inr h) (inr k) =
-    one_departure form s h.0.end p q h.3 (subst (λ (x : Token). Departs form s x.end q) (one_got s at k.0 h.0 k.1 h.1) k.3)
 one_departure (AnyName ∷ form) s at p q (inl h) (inl k) = h.3 ∙ ap (place_of s) (one_next s at h.0 k.0 h.1 k.1) ∙ sym k.3
 one_departure (AnyName ∷ form) s at p q (inl h) (inr k) = absurd (name_or_none s at k.0 h.0 k.1 k.2 h.1 h.2)
 one_departure (AnyName ∷ form) s at p q (inr h) (inl k) = absurd (name_or_none s at h.0 k.0 h.1 h.2 k.1 k.2)
@@ -303,9 +291,6 @@ no_both_forms [] s at xs p h k = k.2 (one_next s at k.0 End k.1 h.1)
 no_both_forms (Fixed part ∷ form) s at xs p h (inl k) = follows_or_leaves part s at h.0 p h.1 k
 no_both_forms (Fixed part ∷ form) s at xs p h (inr k) =
     no_both_forms form s h.0 xs p h.2 (subst (λ x. Departs form s x p) (one_follow part s at k.0 h.0 k.1 h.1) k.2)
-no_both_forms (AnyNumber ∷ form) s at xs p h (inl k) = number_or_none s at h.0 k.0 h.2 h.3 k.1 k.2
-no_both_forms (AnyNumber ∷ form) s at xs p h (inr k) =
-    no_both_forms form s h.0.end h.1 p h.5 (subst (λ (x : Token). Departs form s x.end p) (one_got s at k.0 h.0 k.1 h.2) k.3)
 no_both_forms (AnyName ∷ form) s at xs p h (inl k) = name_or_none s at h.0 k.0 h.2 h.3 k.1 k.2
 no_both_forms (AnyName ∷ form) s at xs p h (inr k) =
     no_both_forms form s h.0.end h.1 p h.5 (subst (λ (x : Token). Departs form s x.end p) (one_got s at k.0 h.0 k.1 h.2) k.3)

@@ -4,5 +4,5 @@ pub mod Answers
 pub mod Reading
 pub mod Schemas
 pub mod Printing
-pub mod Wide
+pub mod FileForm
 pub mod Numbered

@@ -1,33 +1,12 @@
--- The parts of a form: texts that are nothing but tokens, and the numbers behind them.
-use Rattle.std.specs.Prelude.{◌≡◌, ℕ, ◌+◌, zero, suc, Bool, true, false, List, [], ◌∷◌, length, drop, Option, Some, None, ◌⊎◌, if◌then◌else◌, codes, ◌&&◌, ◌||◌, ◌==◌, not}
+-- The parts of a form: texts that are nothing but tokens.
+use Rattle.std.specs.Prelude.{◌≡◌, ℕ, ◌+◌, zero, suc, Bool, true, false, List, [], ◌∷◌, length, drop, Option, Some, None, if◌then◌else◌, codes, ◌&&◌, ◌||◌, ◌==◌, not}
 use Rattle.spec_step.specs.Spelling.{word}
-use Rattle.spec_step.specs.Gaps.{is_blank, IsNext}
-use Rattle.spec_step.specs.Form.{is_number, is_number_step, place_of, Follows, Leaves}
-use Rattle.spec_step.specs.declared.token.Span.{Span}
-use Rattle.spec_step.specs.declared.token.Token.{Token}
+use Rattle.spec_step.specs.Gaps.{is_blank}
 use Rattle.spec_step.specs.declared.token.TokenKind.{TokenKind}
 use Rattle.spec_step.specs.declared.token.TokenKind.TheVariants.{StartWord, EndWord}
-use Rattle.spec_step.specs.declared.token.TokenStep.{TokenStep}
-use Rattle.spec_step.specs.declared.token.TokenStep.TheVariants.{Got}
 use Rattle.step_text.specs.declared.machine.State.{State}
 use Rattle.step_text.specs.declared.machine.State.TheVariants.{Start}
 use Rattle.step_text.specs.Machine.{step_of, accepted, better_of}
-
--- the next token is a number, and spans these bytes
-abbrev pub IsNumberAt : List ℕ → ℕ → Span → Type 0
-IsNumberAt s at number = (t : Token) × IsNext s at (Got t) × (is_number t.kind ≡ true) × (number ≡ record { from = t.from; end = t.end })
-
--- what stands next is no number, and stands at this place
-abbrev pub IsNoNumberAt : List ℕ → ℕ → ℕ → Type 0
-IsNoNumberAt s at place = (step : TokenStep) × IsNext s at step × (is_number_step step ≡ false) × (place ≡ place_of s step)
-
--- the tokens of the part stand here, and then this number
-abbrev pub IsNumberBehind : List ℕ → List ℕ → ℕ → Span → Type 0
-IsNumberBehind part s at number = (to : ℕ) × Follows part s at to × IsNumberAt s to number
-
--- here the text leaves the part, or has no number behind it
-abbrev pub IsNoNumberBehind : List ℕ → List ℕ → ℕ → ℕ → Type 0
-IsNoNumberBehind part s at place = Leaves part s at place ⊎ ((to : ℕ) × Follows part s at to × IsNoNumberAt s to place)
 
 abbrev pub with_step : Option State → Option (TokenKind × ℕ) → (State → Option (TokenKind × ℕ)) → Option (TokenKind × ℕ)
 with_step None best go_on = best

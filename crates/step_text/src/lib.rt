@@ -4,6 +4,7 @@
 
 mod bytes;
 mod file;
+mod file_form;
 mod gap;
 mod known;
 mod lines;
@@ -12,27 +13,25 @@ mod machine;
 mod next;
 mod parse;
 mod plain;
+mod plain_fault;
 mod print;
 mod read;
 mod repeat;
 mod rules;
 mod schema;
 mod slots;
-mod wide;
-mod wide_fault;
 
 pub use file::StepFile;
+pub use file_form::{Plain, plain_file};
 pub use next::next_token;
 pub use parse::parse_file;
-pub use plain::{Plain, PlainFault, plain_file};
+pub use plain_fault::PlainFault;
 pub use print::print_file;
 pub use spec_step::{
     Body, Entry, Instance, Param, PlainLine, Span, StepFault, Token, TokenKind, TokenStep,
 };
-pub use wide::{WidePlain, wide_file};
-pub use wide_fault::WideFault;
 
 #[cfg(test)]
-mod tests;
+mod form_tests;
 #[cfg(test)]
-mod wide_tests;
+mod tests;

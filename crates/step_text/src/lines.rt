@@ -3,9 +3,9 @@ ghost use Rattle.std.specs.List.{All};
 ghost use Rattle.spec_step.specs.Slots.{Fills, Misses};
 ghost use Rattle.spec_step.specs.Lines.{Stated, IsHead, head_slots, is_word, solid_by_word, begun, kind_of, span_of, Says};
 ghost use Rattle.spec_step.specs.declared.token.TokenKind.TheVariants.{Number};
-ghost use Rattle.step_text.specs.Wide.{IsTokenIn, AreFree};
+ghost use Rattle.step_text.specs.FileForm.{IsTokenIn, AreFree};
 
-use crate::plain::PlainFault;
+use crate::plain::Departure;
 use crate::rules::number_in;
 use crate::slots::{DIFFERENCE, expect, text};
 use spec_step::{Begun, LineKind, PlainLine, Slot, Span, Token};
@@ -18,7 +18,7 @@ pub struct Head {
 }
 
 /// How a line begins.
-pub fn read_head(source: &[u8], from: usize) -> Result<Head, PlainFault>
+pub fn read_head(source: &[u8], from: usize) -> Result<Head, Departure>
     requires { from ≤ length source.now }
     ensures form { MatchResult result (λ head. IsHead source.now from head.name head.word)
         (λ fault. Misses head_slots source.now from fault.at) }

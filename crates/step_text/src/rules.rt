@@ -5,7 +5,7 @@ ghost use Rattle.spec_step.specs.Form.{text_of, is_name};
 ghost use Rattle.ix_num.specs.Magnitudes.{AreDigits};
 ghost use Rattle.spec_step.specs.Lines.{Stated, kind_of, number_in};
 ghost use Rattle.spec_step.specs.Rules.{look, is_fixed, is_fresh, fits, is_within, is_kept, number_of, is_solid, is_of, is_point, is_axes, is_rect, count_in, depth_in, count_of, depth_of, entry, first_misfit, line_break};
-ghost use Rattle.step_text.specs.Wide.{IsTokenIn};
+ghost use Rattle.step_text.specs.FileForm.{IsTokenIn};
 ghost use Rattle.spec_step.specs.declared.token.TokenKind.TheVariants.{Number};
 
 use crate::known::KnownLines;

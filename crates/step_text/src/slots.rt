@@ -6,11 +6,11 @@ ghost use Rattle.spec_step.specs.Slots.{passes, step_passes, is_free, kept, Fill
 ghost use Rattle.spec_step.specs.Lines.{line_slots, number_in};
 ghost use Rattle.spec_step.specs.declared.token.TokenStep.{TokenStep};
 ghost use Rattle.spec_step.specs.declared.token.TokenStep.TheVariants.{Got};
-ghost use Rattle.step_text.specs.Wide.{IsTokenIn, IfNotBuilt};
+ghost use Rattle.step_text.specs.FileForm.{IsTokenIn, IfNotBuilt};
 
 use crate::next::next_token;
-use crate::plain::{PlainFault, place};
-use crate::wide_fault::WideFault;
+use crate::plain::{Departure, place};
+use crate::plain_fault::PlainFault;
 use spec_step::{LineKind, Slot, Token, TokenKind, TokenStep};
 use std::alloc::{AllocError, Global};
 
@@ -145,7 +145,7 @@ fn is_free(slot: Slot) -> bool
 }
 
 /// The next token, which has to pass the slot.
-pub fn expect(slot: Slot, source: &[u8], from: usize) -> Result<Token, PlainFault>
+pub fn expect(slot: Slot, source: &[u8], from: usize) -> Result<Token, Departure>
     requires { from ≤ length source.now }
     ensures form { MatchResult result (λ token. IsNext source.now from (Got token) × (passes slot source.now token ≡ true))
         (λ fault. (step : TokenStep) × IsNext source.now from step × (step_passes slot source.now step ≡ false) × (fault.at ≡ place_of source.now step)) }
@@ -154,7 +154,7 @@ pub fn expect(slot: Slot, source: &[u8], from: usize) -> Result<Token, PlainFaul
 {
     match next_token(source, from) {
         TokenStep::Got(token) if passes(slot, source, &token) => Ok(token),
-        step => Err(PlainFault {
+        step => Err(Departure {
             at: place(source, &step),
         }),
     }
@@ -175,7 +175,7 @@ pub fn fill(
     slots: &[Slot],
     source: &[u8],
     from: usize,
-) -> Result<(Vec<Token>, usize), WideFault>
+) -> Result<(Vec<Token>, usize), PlainFault>
     requires { from ≤ length source.now }
     ensures form { MatchResult result (λ line. Fills slots.now source.now from line.0.items line.1)
         (λ fault. IfNotBuilt fault (Misses slots.now source.now from)) }

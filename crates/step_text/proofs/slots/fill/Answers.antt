@@ -3,7 +3,7 @@ use Rattle.spec_step.specs.Slots.{Fills}
 use Rattle.spec_step.specs.declared.line.Slot.TheVariants.{Mark}
 use Rattle.step_text.proofs.Filling.{kept_behind, one_filled, one_passed, one_missed, all_filled, next_slot}
 use Rattle.step_text.proofs.Faults.{handed_on}
-use Rattle.step_text.specs.declared.wide_fault.WideFault.TheVariants.{NotBuilt}
+use Rattle.step_text.specs.declared.plain_fault.PlainFault.TheVariants.{NotBuilt}
 use Rattle.step_text.proofs.slots.fill.Goals as goal
 
 pub returns-in_err-token-clause-form : goal.returns-in_err-token-clause-form

@@ -2,26 +2,26 @@ ghost use Rattle.std.specs.Prelude.{◌≡◌, ◌≤◌, ◌++◌, [], ◌∷�
 ghost use Rattle.std.specs.List.{All};
 ghost use Rattle.spec_step.specs.Form.{HasForm, Departs};
 ghost use Rattle.spec_step.specs.Slots.{Misses};
-ghost use Rattle.spec_step.specs.Lines.{Stated, IsHead, IsFile, DepartsFile, begun, kind_of, span_of, number_in, line_slots, before_lines, before_item, behind_item, shape_form};
+ghost use Rattle.spec_step.specs.Lines.{Stated, IsHead, IsPlainFile, DepartsFile, begun, kind_of, span_of, number_in, line_slots, before_lines, before_item, behind_item, shape_form};
 ghost use Rattle.spec_step.specs.Rules.{entry, line_break, or_then, unless, is_of, is_solid, look, first_break, IsKept, BreaksAt};
 ghost use Rattle.spec_step.specs.Sound.{AreLines};
 ghost use Rattle.spec_step.specs.declared.token.TokenKind.TheVariants.{Number};
 ghost use Rattle.spec_step.specs.declared.line.Begun.TheVariants.{Solid};
-ghost use Rattle.step_text.specs.Wide.{IsTokenIn, IfNotBuilt, IsRead, AreReadToShape, DepartsBehindLines};
+ghost use Rattle.step_text.specs.FileForm.{IsTokenIn, IfNotBuilt, IsRead, AreReadToShape, DepartsBehindLines};
 
 use crate::known::KnownLines;
 use crate::lines::{Head, begun, line_of, read_head};
-use crate::plain::{PlainFault, end_behind, follow};
+use crate::plain::{Departure, end_behind, follow};
+use crate::plain_fault::PlainFault;
 use crate::rules::{check_line, is_solid, number_in};
 use crate::slots::{expect, fill, line_slots};
-use crate::wide_fault::WideFault;
 use spec_step::{Begun, LineKind, PlainLine, Slot, Token};
 use std::alloc::{AllocError, Global};
 
 /// A file of solid lines: what they say, in their order, and the number of the line that is the
 /// shape's item.
 #[derive(Debug, Drop)]
-pub struct WidePlain {
+pub struct Plain {
     pub lines: Vec<PlainLine>,
     pub item: u64,
 }
@@ -81,7 +81,7 @@ impl Book {
     }
 
     /// The file with its item, unless a rule is broken.
-    fn finish(self, source: &[u8], item: &Token) -> Result<WidePlain, PlainFault>
+    fn finish(self, source: &[u8], item: &Token) -> Result<Plain, Departure>
         requires token { IsTokenIn source.now item.now }
         requires name { item.now.kind ≡ Number }
         ensures kept { MatchResult result
@@ -91,13 +91,13 @@ impl Book {
         ensures item { IfOk result (λ plain. plain.item ≡ number_in source.now item.now) }
     {
         if let Some(at) = self.broken {
-            return Err(PlainFault { at });
+            return Err(Departure { at });
         }
         let number = number_in(source, item);
         if !is_solid(self.known.look(number)) {
-            return Err(PlainFault { at: item.from });
+            return Err(Departure { at: item.from });
         }
-        Ok(WidePlain {
+        Ok(Plain {
             lines: self.lines,
             item: number,
         })
@@ -111,7 +111,7 @@ fn read_line(
     head: &Head,
     kind: LineKind,
     book: &mut Book,
-) -> Result<usize, WideFault>
+) -> Result<usize, PlainFault>
     requires name { IsTokenIn source.now head.now.name }
     requires is_name { head.now.name.kind ≡ Number }
     requires word { head.now.word.end ≤ length source.now }
@@ -129,7 +129,7 @@ fn read_line(
 }
 
 /// Reads the solid lines from a place, and answers where the keyword of the shape's line ends.
-fn read_lines(alloc: Global, source: &[u8], from: usize) -> Result<(Book, usize), WideFault>
+fn read_lines(alloc: Global, source: &[u8], from: usize) -> Result<(Book, usize), PlainFault>
     requires { from ≤ length source.now }
     ensures form { MatchResult result (λ found. AreReadToShape source.now from found.0.lines.items found.0.known found.0.broken found.1)
         (λ fault. IfNotBuilt fault (DepartsBehindLines source.now from)) }
@@ -142,7 +142,7 @@ fn read_lines(alloc: Global, source: &[u8], from: usize) -> Result<(Book, usize)
         match begun(source, &head.name, &head.word) {
             Begun::Shape => return Ok((book, head.word.end)),
             Begun::Nothing => {
-                return Err(WideFault::NotBuilt { at: head.word.from });
+                return Err(PlainFault::NotBuilt { at: head.word.from });
             }
             Begun::Solid(kind) => at = read_line(alloc, source, &head, kind, &mut book)?,
         }
@@ -150,7 +150,7 @@ fn read_lines(alloc: Global, source: &[u8], from: usize) -> Result<(Book, usize)
 }
 
 /// Reads the line of the shape behind its keyword, and all that follows it.
-fn read_shape(source: &[u8], from: usize) -> Result<Token, PlainFault>
+fn read_shape(source: &[u8], from: usize) -> Result<Token, Departure>
     requires { from ≤ length source.now }
     ensures form { MatchResult result (λ item. HasForm shape_form source.now from (span_of item ∷ []))
         (λ fault. Departs shape_form source.now from fault.at) }
@@ -181,7 +181,7 @@ fn read_shape(source: &[u8], from: usize) -> Result<Token, PlainFault>
 /// first at which a line breaks a rule: lines in their order, and in each its number, then its
 /// references and lengths in their order, then its count and its depth, placed at its number; the
 /// item comes last. `NoMemory` where memory was wanting.
-pub fn wide_file(alloc: Global, source: &[u8]) -> Result<WidePlain, WideFault>
+pub fn plain_file(alloc: Global, source: &[u8]) -> Result<Plain, PlainFault>
     ensures form { MatchResult result (λ plain. IsKept source.now plain.lines.items plain.item)
         (λ fault. IfNotBuilt fault (λ place. DepartsFile source.now place ⊎ BreaksAt source.now place)) }
     ensures lines { IfOk result (λ plain. AreLines source.now plain.lines.items plain.item) }

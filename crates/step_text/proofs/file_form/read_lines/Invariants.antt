@@ -1,6 +1,6 @@
 use Rattle.std.proofs.Common.{◌≤◌, ◌-◌, length}
-use Rattle.step_text.specs.Wide.{IsRead}
-use Rattle.step_text.proofs.wide.read_lines.Given as goal
+use Rattle.step_text.specs.FileForm.{IsRead}
+use Rattle.step_text.proofs.file_form.read_lines.Given as goal
 
 -- the lines so far are read
 abbrev pub invariant-loop-book : goal.invariant-loop-book

@@ -5,10 +5,10 @@ use Rattle.spec_step.specs.Lines.{Stated, IsLineAt, line_slots, Says}
 use Rattle.spec_step.specs.Rules.{or_then, line_break}
 use Rattle.spec_step.specs.declared.line.Slot.{Slot}
 use Rattle.spec_step.specs.declared.token.Token.{Token}
-use Rattle.step_text.specs.Wide.{IsTokenIn}
+use Rattle.step_text.specs.FileForm.{IsTokenIn}
 use Rattle.step_text.proofs.Filling.{free_tokens}
 use Rattle.step_text.proofs.Reading.{read_more, line_at}
-use Rattle.step_text.proofs.wide.read_line.Goals as goal
+use Rattle.step_text.proofs.file_form.read_line.Goals as goal
 
 pub add-requires : goal.add-requires
 add-requires c =

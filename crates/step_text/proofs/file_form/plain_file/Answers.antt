@@ -2,11 +2,11 @@ use Rattle.std.proofs.Common.{sym, subst, List}
 use Rattle.spec_step.specs.Lines.{before_lines}
 use Rattle.spec_step.specs.Rules.{IsKept}
 use Rattle.spec_step.specs.declared.line.PlainLine.{PlainLine}
-use Rattle.step_text.specs.declared.wide_fault.WideFault.TheVariants.{NotBuilt}
+use Rattle.step_text.specs.declared.plain_fault.PlainFault.TheVariants.{NotBuilt}
 use Rattle.step_text.proofs.Faults.{handed_on}
 use Rattle.step_text.proofs.Reading.{not_built_on, front_departs, behind_front, shape_departs, file_kept, file_breaks}
 use Rattle.step_text.proofs.Soundness.{sound}
-use Rattle.step_text.proofs.wide.wide_file.Goals as goal
+use Rattle.step_text.proofs.file_form.plain_file.Goals as goal
 
 pub returns-in_err-from-clause-form : goal.returns-in_err-from-clause-form
 unfolding before_lines

@@ -10,8 +10,8 @@ use Rattle.spec_step.specs.declared.line.LineKind.{LineKind}
 use Rattle.spec_step.specs.declared.line.PlainLine.{PlainLine}
 use Rattle.spec_step.specs.declared.line.Known.{Known}
 use Rattle.spec_step.specs.declared.line.Begun.TheVariants.{Shape}
-use Rattle.step_text.specs.declared.wide_fault.WideFault.{WideFault}
-use Rattle.step_text.specs.declared.wide_fault.WideFault.TheVariants.{NotBuilt, NoMemory}
+use Rattle.step_text.specs.declared.plain_fault.PlainFault.{PlainFault}
+use Rattle.step_text.specs.declared.plain_fault.PlainFault.TheVariants.{NotBuilt, NoMemory}
 
 -- a token of the text
 pub record IsTokenIn (s : List ℕ) (t : Token) : Type 0 where
@@ -24,7 +24,7 @@ abbrev pub AreFree : List ℕ → LineKind → List Token → Type 0
 AreFree s kind free = (at : ℕ) × (to : ℕ) × Fills (line_slots kind) s at free to
 
 -- a fault of the form, at a place that is such
-abbrev pub IfNotBuilt : WideFault → (ℕ → Type 0) → Type 0
+abbrev pub IfNotBuilt : PlainFault → (ℕ → Type 0) → Type 0
 IfNotBuilt (NotBuilt at) P = P at
 IfNotBuilt NoMemory P = ⊤
 

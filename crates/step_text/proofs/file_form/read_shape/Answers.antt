@@ -1,7 +1,7 @@
 use Rattle.std.proofs.lemmas.Result.{err_from_is_err_and}
 use Rattle.spec_step.specs.Lines.{before_item, behind_item}
 use Rattle.step_text.proofs.Reading.{shape_item, no_front, no_item, no_rest}
-use Rattle.step_text.proofs.wide.read_shape.Goals as goal
+use Rattle.step_text.proofs.file_form.read_shape.Goals as goal
 
 pub returns-in_err-at-clause-form : goal.returns-in_err-at-clause-form
 unfolding before_item

@@ -39,10 +39,10 @@ fn file(alloc: Global, lines: &str, item: &str) -> Result<String, AllocError> {
 /// The place at which the file is refused, if it is.
 fn place(alloc: Global, lines: &str, item: &str) -> Result<Option<usize>, AllocError> {
     let text = file(alloc, lines, item)?;
-    match wide_file(alloc, text.as_bytes()) {
+    match plain_file(alloc, text.as_bytes()) {
         Ok(_) => Ok(None),
-        Err(WideFault::NotBuilt { at }) => Ok(Some(at)),
-        Err(WideFault::NoMemory) => Err(AllocError),
+        Err(PlainFault::NotBuilt { at }) => Ok(Some(at)),
+        Err(PlainFault::NoMemory) => Err(AllocError),
     }
 }
 
@@ -178,7 +178,7 @@ fn reads_lines(rt: HostRuntime) -> Result<(), Fail> {
 #0021=IFCBOOLEANRESULT(.DIFFERENCE.,#10,#010);
 ";
     let text = file(rt.alloc(), lines, "#21")?;
-    let plain = wide_file(rt.alloc(), text.as_bytes())?;
+    let plain = plain_file(rt.alloc(), text.as_bytes())?;
     let want = [
         PlainLine::Rect {
             number: 9,

@@ -2,7 +2,7 @@ use Rattle.std.proofs.Common.{refl}
 use Rattle.spec_step.specs.declared.line.Begun.TheVariants.{Solid, Nothing}
 use Rattle.step_text.proofs.Faults.{handed_on}
 use Rattle.step_text.proofs.Reading.{line_departs, not_built_on}
-use Rattle.step_text.proofs.wide.read_lines.Goals as goal
+use Rattle.step_text.proofs.file_form.read_lines.Goals as goal
 
 pub returns-in-Nothing-clause-form : goal.returns-in-Nothing-clause-form
 returns-in-Nothing-clause-form c =
