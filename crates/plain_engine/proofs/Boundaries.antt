@@ -1,7 +1,6 @@
 -- A piece as a face: it has the boundary at each of its points that is alone on its plane.
 use Rattle.std.proofs.Common.{◌≡◌, ◌≢◌, ◌⊎◌, inl, inr, ℕ, ◌+◌, ◌<◌, ◌≤◌, Bool, true, false, not, cond, List, [], ◌∷◌, ◌++◌, length, map, take, get_or, slice_get, Option, Some, ℤ, pos, All, refl, sym, ap, ap₂, subst, ◌∙◌, append_assoc, arith}
 use Rattle.std.specs.Prelude.{filter, if◌then◌else◌}
-
 use Rattle.std.proofs.lemmas.List.Elements.{filter-append, All-push, All-weaker}
 use Rattle.std.proofs.lemmas.Option.{slice_get-get_or}
 use Rattle.spec_space.specs.declared.Plane.{Plane}
@@ -85,9 +84,9 @@ module _ (planes : List BookPlane) (s : Tree) (of : ArePlanesOf (body_of s) plan
       let here : plane_of b.0 ≡ h = sym same ∙ own_plane inside in
       let lone : IsAlone (body_of s) (plane_of b.0) p = subst (λ k. IsAlone (body_of s) k p) (sym here) alone in
       let front : is_meant (body_of s) (front_of h p) ≡ in_front = ap (λ k. is_meant (body_of s) (front_of k p)) (sym here) ∙ neighbour_in_front s b.0 p is lone
-          ∙ sym ((are p is inside).front ∙ ap (λ k. told_at_front k) same) in
+      ∙ sym ((are p is inside).front ∙ ap (λ k. told_at_front k) same) in
       let back : is_meant (body_of s) (back_of h p) ≡ behind = ap (λ k. is_meant (body_of s) (back_of k p)) (sym here) ∙ neighbour_behind s b.0 p is lone
-          ∙ sym ((are p is inside).back ∙ ap (λ k. told_at_back k) same) in
+      ∙ sym ((are p is inside).back ∙ ap (λ k. told_at_back k) same) in
       ap₂ (λ i j. told_boundary i j h) front back
     where
       told_at_front : Plane → Bool

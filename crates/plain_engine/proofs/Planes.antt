@@ -72,14 +72,16 @@ none_found planes s faces = record { found = λ h p is alone. append_none (plane
 
 pub next_found : (planes : List BookPlane) (s : Tree) (pieces : List Piece) (i : ℕ) (q : Piece) (old mid new : List Face) → i < length pieces → q ≡ get_or pieces i q
     → HasFound planes s (take i pieces) old mid → AddsPiece planes (body_of s) q mid new → HasFound planes s (take (i + 1) pieces) old new
-next_found planes s pieces i q old mid new below item before adds = record { found = λ h p is alone.
-    let hs = boundary_at (body_of s) h p in
-    let one = if holds planes q.frag p then hs else [] in
-    adds h p is alone
-    ∙ ap (λ ks. ks ++ one) (before.found h p is alone)
-    ∙ append_assoc (planes_at old p) (found_in planes p hs (take i pieces)) one
-    ∙ ap (λ ks. planes_at old p ++ ks) (sym (found_push planes p hs (take i pieces) q))
-    ∙ ap (λ qs. planes_at old p ++ found_in planes p hs qs) (ap (λ r. take i pieces ++ r ∷ []) item ∙ sym (take_more pieces i q below)) }
+next_found planes s pieces i q old mid new below item before adds = record {
+  found = λ h p is alone.
+      let hs = boundary_at (body_of s) h p in
+      let one = if holds planes q.frag p then hs else [] in
+      adds h p is alone
+      ∙ ap (λ ks. ks ++ one) (before.found h p is alone)
+      ∙ append_assoc (planes_at old p) (found_in planes p hs (take i pieces)) one
+      ∙ ap (λ ks. planes_at old p ++ ks) (sym (found_push planes p hs (take i pieces) q))
+      ∙ ap (λ qs. planes_at old p ++ found_in planes p hs qs) (ap (λ r. take i pieces ++ r ∷ []) item ∙ sym (take_more pieces i q below));
+}
 
 pub all_found : (planes : List BookPlane) (s : Tree) (pieces : List Piece) (i : ℕ) (old new : List Face) → length pieces ≤ i → HasFound planes s (take i pieces) old new → HasFound planes s pieces old new
 all_found planes s pieces i old new past found = subst (λ qs. HasFound planes s qs old new) (take_all i pieces past) found

@@ -6,5 +6,7 @@ mod faces;
 mod meanings;
 mod mesh;
 mod prints;
+#[cfg(test)]
+mod tests;
 
 pub use mesh::{PrintedMesh, make_mesh};

@@ -1,6 +1,6 @@
-ghost use Rattle.std.specs.Prelude.{◌≤◌, ◌^◌, length, IfOk};
+ghost use Rattle.std.specs.Prelude.{IfOk};
 ghost use Rattle.spec_headline.specs.Headline.{IsPrintOf};
-ghost use Rattle.box_solids.specs.Trees.{body_of, planes_of};
+ghost use Rattle.box_solids.specs.Trees.{body_of};
 ghost use Rattle.box_solids.specs.Views.{tree_of};
 ghost use Rattle.plain_engine.specs.Prints.{element_of};
 
@@ -25,7 +25,6 @@ pub struct PrintedMesh {
 /// all others within the enclosing cube, and a piece is a face where the meaning differs across it. Corners stand in the order
 /// of their first use, each once (rules of this project). The error is want of memory.
 pub fn make_mesh(alloc: Global, solid: &BoxSolid) -> Result<PrintedMesh, AllocError>
-    requires room { length (planes_of (tree_of solid.now)) ≤ 2 ^ 30 }
     ensures print { IfOk result (λ m. IsPrintOf (body_of (tree_of solid.now)) 1000 (element_of m)) }
 {
     let book = plane_book(alloc, solid)?;

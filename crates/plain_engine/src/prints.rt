@@ -20,10 +20,7 @@ fn print_corner(corner: &Corner) -> [i128; 3]
 }
 
 /// The corners in whole micrometres. The error is want of memory.
-pub(crate) fn print_corners(
-    alloc: Global,
-    corners: &[Corner],
-) -> Result<Vec<[i128; 3]>, AllocError>
+pub(crate) fn print_corners(alloc: Global, corners: &[Corner]) -> Result<Vec<[i128; 3]>, AllocError>
     requires reach { All IsWithinReach corners.now }
     ensures { IfOk result (λ printed. map vector_of printed.items ≡ map (λ c. rounded_image world_frame 1000 (point_of c)) corners.now) }
 {

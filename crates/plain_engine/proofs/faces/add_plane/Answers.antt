@@ -24,7 +24,7 @@ add_piece-requires c =
     let fragments = subst (All (λ (q : Piece). IsFragment planes q.frag × (q.frag.support ≡ c.args.support))) (sym same) c.in_ok-pieces.ensures.fragments in
     let sides = subst (All (TellsSides planes (length planes))) (sym same) c.in_ok-pieces.ensures.sides in
     let one = subst (λ (q : Piece). IsFragment planes q.frag × (q.frag.support ≡ c.args.support)) (sym c.piece-item.is)
-        (All-get_or (λ (q : Piece). IsFragment planes q.frag × (q.frag.support ≡ c.args.support)) list i q c.loop-piece-test.true fragments) in
+    (All-get_or (λ (q : Piece). IsFragment planes q.frag × (q.frag.support ≡ c.args.support)) list i q c.loop-piece-test.true fragments) in
     record {
       planes = c.requires.planes;
       size = c.requires.size;
