@@ -1,11 +1,11 @@
 -- The planes of a box's triangles: many times one of its walls, or the diagonal from one side or the other.
-use Rattle.std.proofs.Common.{◌≡◌, ◌≢◌, ℤ, pos, negsuc, ◌+ℤ◌, ◌*ℤ◌, ◌-ℤ◌, neg_ℤ, ◌<ℤ◌, List, [], ◌∷◌, ◌⊎◌, inl, inr, refl, ap, arith}
+use Rattle.std.proofs.Common.{◌≡◌, ◌≢◌, ℤ, pos, ◌*ℤ◌, ◌-ℤ◌, neg_ℤ, ◌<ℤ◌, List, [], ◌∷◌, ◌⊎◌, inl, inr, refl, arith}
 use Rattle.std.specs.List.{flat_map, All, Contains}
 use Rattle.std.proofs.lemmas.Int.{ints}
 use Rattle.std.proofs.lemmas.List.Elements.{All-nil, All-append}
 use Rattle.spec_space.specs.declared.Plane.{Plane}
 use Rattle.spec_space.specs.declared.Vector.{Vector}
-use Rattle.spec_solid.specs.Triangles.{Triangle, turn}
+use Rattle.spec_solid.specs.Triangles.{Triangle}
 use Rattle.spec_solid.specs.Planes.{plane_through, upright_plane, triangle_planes}
 use Rattle.spec_solid.specs.Extrusions.{face_triangles}
 use Rattle.box_mesh.specs.Boxes.{place, quadrilateral, box_faces}
@@ -173,16 +173,28 @@ module _ (low high : Vector) (wide : low.x <ℤ high.x) (long : low.y <ℤ high.
   IsGridPlane k = (t : Triangle) × Contains (grid_triangles low high) t × Contains (triangle_planes t) k
 
   of_bottom_first : (k : Plane) → Contains (own_planes (bottom_first low high)) k → IsGridPlane k
-  of_bottom_first k c = (bottom_first low high, (1, omega arith, refl), has_own (bottom_first low high)
-      (area low.x high.x low.y high.y ((low.y -ℤ low.y) *ℤ (high.x -ℤ low.x)) wide long (zero_left (low.y -ℤ low.y) (high.x -ℤ low.x) (same_difference low.y))) k c)
+  of_bottom_first k c = (
+    bottom_first low high,
+    (1, omega arith, refl),
+    has_own (bottom_first low high)
+        (area low.x high.x low.y high.y ((low.y -ℤ low.y) *ℤ (high.x -ℤ low.x)) wide long (zero_left (low.y -ℤ low.y) (high.x -ℤ low.x) (same_difference low.y))) k c,
+  )
 
   of_bottom_second : (k : Plane) → Contains (own_planes (bottom_second low high)) k → IsGridPlane k
-  of_bottom_second k c = (bottom_second low high, (2, omega arith, refl), has_own (bottom_second low high)
-      (area low.x high.x low.y high.y ((high.y -ℤ low.y) *ℤ (low.x -ℤ low.x)) wide long (zero_right (high.y -ℤ low.y) (low.x -ℤ low.x) (same_difference low.x))) k c)
+  of_bottom_second k c = (
+    bottom_second low high,
+    (2, omega arith, refl),
+    has_own (bottom_second low high)
+        (area low.x high.x low.y high.y ((high.y -ℤ low.y) *ℤ (low.x -ℤ low.x)) wide long (zero_right (high.y -ℤ low.y) (low.x -ℤ low.x) (same_difference low.x))) k c,
+  )
 
   of_top_first : (k : Plane) → Contains (own_planes (top_first low high)) k → IsGridPlane k
-  of_top_first k c = (top_first low high, (5, omega arith, refl), has_own (top_first low high)
-      (area low.x high.x low.y high.y ((low.y -ℤ low.y) *ℤ (high.x -ℤ low.x)) wide long (zero_left (low.y -ℤ low.y) (high.x -ℤ low.x) (same_difference low.y))) k c)
+  of_top_first k c = (
+    top_first low high,
+    (5, omega arith, refl),
+    has_own (top_first low high)
+        (area low.x high.x low.y high.y ((low.y -ℤ low.y) *ℤ (high.x -ℤ low.x)) wide long (zero_left (low.y -ℤ low.y) (high.x -ℤ low.x) (same_difference low.y))) k c,
+  )
 
   -- planes of the box that are many times a wall
   pub record HasMany (IsMany : Plane → Type 0) (number : Plane → ℤ) : Type 0 where

@@ -5,3 +5,9 @@ pub mod WallPlanes
 pub mod Neighbours
 pub mod Outside
 pub mod Reduced
+pub mod Numbers
+pub mod Additions
+pub mod BookLaws
+pub mod SmallPlanes
+pub mod Searches
+pub mod Folds

@@ -1,5 +1,5 @@
 -- Outside the enclosing cube an element of boxes means nothing.
-use Rattle.std.proofs.Common.{◌≡◌, ◌≢◌, ◌≤◌, ◌^◌, ℤ, pos, negsuc, ◌*ℤ◌, ◌-ℤ◌, ◌<ℤ◌, ◌≤ℤ◌, unsigned_abs, Bool, true, false, not, ◌&&◌, refl, sym, ap, ◌∙◌, arith}
+use Rattle.std.proofs.Common.{◌≡◌, ◌≢◌, ◌≤◌, ◌^◌, ℤ, pos, negsuc, ◌*ℤ◌, ◌-ℤ◌, ◌<ℤ◌, ◌≤ℤ◌, unsigned_abs, Bool, true, false, not, ◌&&◌, refl, ap, ◌∙◌, arith}
 use Rattle.std.specs.Prelude.{if◌then◌else◌}
 use Rattle.std.proofs.lemmas.Int.{ints}
 use Rattle.spec_space.specs.declared.Plane.{Plane}
@@ -125,6 +125,6 @@ module _ (h : Plane) (front : Bool) (p : Point) (positive : IsPoint p) (on : val
 pub outside_cube : (s : Tree) (h : BookPlane) (p : Point) → IsPoint p → IsAlone (body_of s) (plane_of h) p → IsFar p
     → (is_meant (body_of s) (front_of (plane_of h) p) ≡ false) × (is_meant (body_of s) (back_of (plane_of h) p) ≡ false)
 outside_cube s h p positive alone far = (
-    neighbour_in_front s h p positive alone ∙ told_nowhere (is_in_front_across (plane_of h) true p) (far_from_box (plane_of h) true p positive alone.1 far) s,
-    neighbour_behind s h p positive alone ∙ told_nowhere (is_in_front_across (plane_of h) false p) (far_from_box (plane_of h) false p positive alone.1 far) s,
-  )
+  neighbour_in_front s h p positive alone ∙ told_nowhere (is_in_front_across (plane_of h) true p) (far_from_box (plane_of h) true p positive alone.1 far) s,
+  neighbour_behind s h p positive alone ∙ told_nowhere (is_in_front_across (plane_of h) false p) (far_from_box (plane_of h) false p positive alone.1 far) s,
+)

@@ -1,5 +1,5 @@
 -- Two reduced planes with equal multiples are one.
-use Rattle.std.proofs.Common.{◌≡◌, ◌≢◌, ℕ, zero, suc, ◌<◌, ℤ, pos, negsuc, neg_ℤ, ◌*ℤ◌, ◌<ℤ◌, unsigned_abs, [], ◌∷◌, ◌⊎◌, inl, inr, refl, sym, ap, subst, ◌∙◌, arith}
+use Rattle.std.proofs.Common.{◌≡◌, ◌≢◌, ℕ, zero, suc, ◌<◌, ℤ, pos, negsuc, neg_ℤ, ◌*ℤ◌, ◌<ℤ◌, unsigned_abs, [], ◌∷◌, inl, inr, refl, sym, ap, subst, ◌∙◌, arith}
 use Rattle.std.proofs.lemmas.Int.{ints}
 use Rattle.spec_space.specs.declared.Plane.{Plane}
 use Rattle.spec_space.specs.Points.{opposite}
@@ -68,7 +68,7 @@ leads_once h (inr (e, inr (g, p))) (inr (f, inr (k, q))) = both_above h.c p q
 opposite_multiples : (h g : Plane) (i j : ℕ) → IsReduced h → IsReduced g → AreEqualTimes (negsuc i) h (pos (suc j)) g → ⊥
 opposite_multiples h g i j first second e =
     let same = positive_multiples (suc i) (suc j) (opposite h) g (omega arith) (omega arith) (opposite_has_none h first.divisors) second.divisors
-        (turn_first i j h.a g.a e.0, turn_first i j h.b g.b e.1, turn_first i j h.c g.c e.2, turn_first i j h.d g.d e.3) in
+    (turn_first i j h.a g.a e.0, turn_first i j h.b g.b e.1, turn_first i j h.c g.c e.2, turn_first i j h.d g.d e.3) in
     leads_once h first.lead (subst LeadsPositive (sym same) second.lead)
 
 pub one_reduced : (h g : Plane) (m n : ℤ) → IsReduced h → IsReduced g → m ≢ pos 0 → n ≢ pos 0 → AreEqualTimes m h n g → h ≡ g

@@ -1,12 +1,14 @@
 -- Books that hold the planes of an element, and flags for the sides of these planes.
-use Rattle.std.specs.Prelude.{◌≡◌, ◌≢◌, ◌↔◌, ◌^◌, ◌≤◌, ◌<◌, ◌+◌, ◌-◌, ℕ, pos, unsigned_abs, Bool, List, length, slice_get, Some, Contains}
+use Rattle.std.specs.Prelude.{◌≡◌, ◌≢◌, ◌^◌, ◌≤◌, ◌<◌, ◌+◌, ◌-◌, ℕ, pos, unsigned_abs, Bool, List, length, slice_get, Some, Contains}
 use Rattle.spec_space.specs.declared.Plane.{Plane}
+use Rattle.spec_space.specs.declared.Point.{Point}
+use Rattle.spec_space.specs.Points.{value}
 use Rattle.spec_solid.specs.Solids.{Body}
 use Rattle.spec_solid.specs.Planes.{IsPlaneOf}
 use Rattle.plane_core.specs.declared.numbers.Plane.{Plane as BookPlane}
 use Rattle.plane_core.specs.Views.{plane_of}
 use Rattle.plane_core.specs.Planes.{IsReductionOf}
-use Rattle.box_solids.specs.Trees.{Tree, walls_of}
+use Rattle.box_solids.specs.Trees.{Tree, Leaf, Joined, walls_of, is_in_front}
 
 -- the planes of the book from number 6 on are those of the element
 pub record ArePlanesOf (body : Body) (book : List BookPlane) : Type 0 where
@@ -39,8 +41,14 @@ HasNumber book k = (n : ℕ) × (p : BookPlane) × (6 ≤ n) × (slice_get book 
 
 -- so have all walls of the boxes
 abbrev pub HasWalls : List BookPlane → Tree → Type 0
-HasWalls book s = (k : Plane) → Contains (walls_of s) k → HasNumber book k
+HasWalls book (Leaf b) = (k : Plane) → Contains (walls_of (Leaf b)) k → HasNumber book k
+HasWalls book (Joined operator first second) = HasWalls book first × HasWalls book second
 
 -- the flag at place n - 6 is for the plane of number n
 abbrev pub AreFlagsOf : List BookPlane → (Plane → Bool) → List Bool → Type 0
 AreFlagsOf book in_front flags = (n : ℕ) (p : BookPlane) → 6 ≤ n → slice_get book n ≡ Some p → slice_get flags (n - 6) ≡ Some (in_front (plane_of p))
+
+-- the flags are the sides of the point, which is on none of the planes
+pub record AreSidesOf (book : List BookPlane) (q : Point) (flags : List Bool) : Type 0 where
+  pub sides : AreFlagsOf book (is_in_front q) flags
+  pub off : (n : ℕ) (p : BookPlane) → 6 ≤ n → slice_get book n ≡ Some p → value (plane_of p) q ≢ pos 0

@@ -4,6 +4,8 @@
 mod planes;
 mod sides;
 mod solids;
+#[cfg(test)]
+mod tests;
 mod walls;
 
 pub use planes::{add_planes, plane_book};

@@ -1,11 +1,14 @@
-ghost use Rattle.std.specs.Prelude.{◌≡◌, ◌^◌, ◌≤◌, ◌<◌, ◌+◌, ◌&&◌, ℕ, length, slice_get, Some, Bool, not};
+ghost use Rattle.std.specs.Prelude.{◌≡◌, ◌^◌, ◌≤◌, ◌<◌, ◌+◌, ◌&&◌, ℕ, length, slice_get, Some, Bool, true, false, not};
 ghost use Rattle.spec_space.specs.declared.Plane.{Plane};
-ghost use Rattle.spec_solid.specs.Solids.{truth};
+ghost use Rattle.spec_space.specs.declared.Point.{Point};
+ghost use Rattle.spec_space.specs.Points.{IsPoint};
+ghost use Rattle.spec_solid.specs.Solids.{truth, is_meant};
+ghost use Rattle.spec_solid.specs.Planes.{IsAlone, front_of, back_of};
 ghost use Rattle.plane_core.specs.Views.{plane_of};
 ghost use Rattle.plane_core.specs.declared.numbers.Plane.{Plane as BookPlane};
-ghost use Rattle.box_solids.specs.Trees.{Leaf, is_plane, told_by};
+ghost use Rattle.box_solids.specs.Trees.{Leaf, body_of, is_plane, is_in_front_across, told_by};
 ghost use Rattle.box_solids.specs.Views.{operator_of, tree_of};
-ghost use Rattle.box_solids.specs.Books.{HasNumber, HasWalls, AreFlagsOf};
+ghost use Rattle.box_solids.specs.Books.{HasNumber, HasWalls, AreFlagsOf, AreSidesOf};
 
 use crate::solids::{BoxSolid, Operator};
 use crate::walls::{has_walls, x_plane, y_plane, z_plane};
@@ -17,10 +20,7 @@ use spec_space::Plane;
 fn has_numbers(plane: &plane_core::Plane, numbers: &Plane) -> bool
     ensures { result ≡ is_plane (plane_of plane.now) numbers.now }
 {
-    plane.a == numbers.a
-        && plane.b == numbers.b
-        && plane.c == numbers.c
-        && plane.d == numbers.d
+    plane.a == numbers.a && plane.b == numbers.b && plane.c == numbers.c && plane.d == numbers.d
 }
 
 /// The number of a plane that the book has after the walls of the cube.
@@ -59,6 +59,13 @@ fn is_between(book: &PlaneBook, low: &Plane, high: &Plane, in_front: &[bool]) ->
     is_in_front(book, low, in_front) && !is_in_front(book, high, in_front)
 }
 
+/// Whether all three hold.
+fn are_all(x: bool, y: bool, z: bool) -> bool
+    ensures { result ≡ (x && (y && z)) }
+{
+    x && y && z
+}
+
 /// Whether the point lies in the box.
 fn told_box(book: &PlaneBook, bounds: &Bounds, in_front: &[bool]) -> bool
     requires known { HasWalls book.now (Leaf bounds.now) }
@@ -70,9 +77,10 @@ fn told_box(book: &PlaneBook, bounds: &Bounds, in_front: &[bool]) -> bool
         return false;
     }
     let Bounds { low, high } = *bounds;
-    is_between(book, &x_plane(low.x), &x_plane(high.x), in_front)
-        && is_between(book, &y_plane(low.y), &y_plane(high.y), in_front)
-        && is_between(book, &z_plane(low.z), &z_plane(high.z), in_front)
+    let in_x = is_between(book, &x_plane(low.x), &x_plane(high.x), in_front);
+    let in_y = is_between(book, &y_plane(low.y), &y_plane(high.y), in_front);
+    let in_z = is_between(book, &z_plane(low.z), &z_plane(high.z), in_front);
+    are_all(in_x, in_y, in_z)
 }
 
 /// Whether the operator's solid has a point, by whether the two that it combines have it.
@@ -85,9 +93,8 @@ fn truth(operator: Operator, first: bool, second: bool) -> bool
     }
 }
 
-/// The meaning of the solid at a point, told by the sides of the planes on which the point lies: `in_front[k - 6]` says that
-/// it lies in front of the plane of number k in the book, which has all walls of the boxes.
-pub fn told(book: &PlaneBook, solid: &BoxSolid, in_front: &[bool]) -> bool
+/// Whether the point lies in the solid.
+fn told_tree(book: &PlaneBook, solid: &BoxSolid, in_front: &[bool]) -> bool
     requires known { HasWalls book.now (tree_of solid.now) }
     requires size { length book.now ≤ 2 ^ 32 }
     requires flags { length in_front.now + 6 ≡ length book.now }
@@ -100,9 +107,27 @@ pub fn told(book: &PlaneBook, solid: &BoxSolid, in_front: &[bool]) -> bool
             first,
             second,
         } => {
-            let in_first = told(book, first.get(), in_front);
-            let in_second = told(book, second.get(), in_front);
+            let in_first = told_tree(book, first.get(), in_front);
+            let in_second = told_tree(book, second.get(), in_front);
             truth(*operator, in_first, in_second)
         }
     }
+}
+
+/// The meaning of the solid at a point, told by the sides of the planes on which the point lies: `in_front[k - 6]` says that
+/// it lies in front of the plane of number k in the book, which has all walls of the boxes. At a point on none of the planes
+/// this is the meaning of the element. For a point that is alone on a plane, with the flag of this plane set it is the meaning
+/// at the point's neighbour in front of the plane, and with the flag not set that at its neighbour behind.
+pub fn told(book: &PlaneBook, solid: &BoxSolid, in_front: &[bool]) -> bool
+    requires known { HasWalls book.now (tree_of solid.now) }
+    requires size { length book.now ≤ 2 ^ 32 }
+    requires flags { length in_front.now + 6 ≡ length book.now }
+    ensures sides { (sides : Plane → Bool) → AreFlagsOf book.now sides in_front.now → result ≡ told_by sides (tree_of solid.now) }
+    ensures meaning { (q : Point) → IsPoint q → AreSidesOf book.now q in_front.now → result ≡ is_meant (body_of (tree_of solid.now)) q }
+    ensures ahead { (h : BookPlane) (p : Point) → IsPoint p → IsAlone (body_of (tree_of solid.now)) (plane_of h) p
+        → AreFlagsOf book.now (is_in_front_across (plane_of h) true p) in_front.now → result ≡ is_meant (body_of (tree_of solid.now)) (front_of (plane_of h) p) }
+    ensures behind { (h : BookPlane) (p : Point) → IsPoint p → IsAlone (body_of (tree_of solid.now)) (plane_of h) p
+        → AreFlagsOf book.now (is_in_front_across (plane_of h) false p) in_front.now → result ≡ is_meant (body_of (tree_of solid.now)) (back_of (plane_of h) p) }
+{
+    told_tree(book, solid, in_front)
 }

@@ -74,7 +74,7 @@ fn upright_plane(from: Vector, to: Vector) -> Plane
     let length = run(from.y, to.y);
     Plane {
         a: length,
-        b: -width,
+        b: run(to.x, from.x),
         c: 0,
         d: distance(length, from.x, width, from.y),
     }
