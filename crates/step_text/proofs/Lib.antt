@@ -15,3 +15,4 @@ pub mod Reading
 pub mod Kept
 pub mod Soundness
 pub mod OneFile
+pub mod ByNumber

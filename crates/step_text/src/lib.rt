@@ -2,6 +2,7 @@
 #![tactic(auto)]
 
 mod gap;
+mod known;
 mod lines;
 mod longest;
 mod machine;

@@ -1,4 +1,4 @@
-ghost use Rattle.std.specs.Prelude.{◌≡◌, ℕ, ◌+◌, ◌<◌, ◌≤◌, ◌^◌, ◌*◌, true, false, Some, None, length, MatchResult, IfOk};
+ghost use Rattle.std.specs.Prelude.{◌≡◌, ℕ, ◌+◌, ◌<◌, ◌≤◌, ◌^◌, ◌*◌, true, false, Some, None, length, is_none, MatchResult, IfOk};
 ghost use Rattle.std.specs.List.{All};
 ghost use Rattle.spec_num.specs.Decimals.{value};
 ghost use Rattle.spec_step.specs.Form.{text_of, is_name};
@@ -8,6 +8,7 @@ ghost use Rattle.spec_step.specs.Rules.{look, is_fixed, is_fresh, fits, is_withi
 ghost use Rattle.step_text.specs.Wide.{IsTokenIn};
 ghost use Rattle.spec_step.specs.declared.token.TokenKind.TheVariants.{Number};
 
+use crate::known::KnownLines;
 use crate::slots::text;
 use ix_num::Decimal;
 use spec_step::{Known, LineKind, PlainLine, Token, TokenKind};
@@ -41,17 +42,10 @@ pub fn number_in(source: &[u8], token: &Token) -> u64
     digits_value(&name[1..])
 }
 
-/// The earlier line with a number.
-pub fn look(known: &[Known], number: u64) -> Option<Known>
-    ensures { result ≡ look known.now number }
-{
-    known.iter().copied().find(|line| line.number == number)
-}
-
-fn is_fresh(known: &[Known], number: u64) -> bool
+fn is_fresh(known: &KnownLines, number: u64) -> bool
     ensures { result ≡ is_fresh known.now number }
 {
-    !matches!(number, 1..=8 | 11..=13) && look(known, number).is_none()
+    !matches!(number, 1..=8 | 11..=13) && known.look(number).is_none()
 }
 
 /// A solid: a block, a prism, or a combination of two.
@@ -95,15 +89,15 @@ fn is_rect(found: Option<Known>) -> bool
 }
 
 /// Whether a line of a kind may name the line with this number.
-fn fits(kind: LineKind, known: &[Known], number: u64) -> bool
+fn fits(kind: LineKind, known: &KnownLines, number: u64) -> bool
     ensures { result ≡ fits kind known.now number }
 {
     match kind {
         LineKind::Point | LineKind::Rect => false,
-        LineKind::Axes => number == 3 || is_point(look(known, number)),
-        LineKind::Block => number == 4 || is_axes(look(known, number)),
-        LineKind::Prism => is_rect(look(known, number)),
-        LineKind::Combine => is_solid(look(known, number)),
+        LineKind::Axes => number == 3 || is_point(known.look(number)),
+        LineKind::Block => number == 4 || is_axes(known.look(number)),
+        LineKind::Prism => is_rect(known.look(number)),
+        LineKind::Combine => is_solid(known.look(number)),
     }
 }
 
@@ -125,7 +119,7 @@ fn is_within(kind: LineKind, text: &[u8]) -> bool
 }
 
 /// Whether a free token of a line keeps the rules.
-fn is_kept(source: &[u8], kind: LineKind, known: &[Known], token: &Token) -> bool
+fn is_kept(source: &[u8], kind: LineKind, known: &KnownLines, token: &Token) -> bool
     requires { IsTokenIn source.now token.now }
     ensures { result ≡ is_kept source.now kind known.now token.now }
 {
@@ -137,7 +131,7 @@ fn is_kept(source: &[u8], kind: LineKind, known: &[Known], token: &Token) -> boo
 }
 
 /// The first free token of a line that breaks a rule.
-fn first_misfit(source: &[u8], kind: LineKind, known: &[Known], free: &[Token]) -> Option<usize>
+fn first_misfit(source: &[u8], kind: LineKind, known: &KnownLines, free: &[Token]) -> Option<usize>
     requires { All (IsTokenIn source.now) free.now }
     ensures { result ≡ first_misfit source.now kind known.now free.now }
 {
@@ -168,26 +162,26 @@ fn depth_in(found: Option<Known>) -> u64
 }
 
 /// The triangles of a line, those of a shared part counted as often as it is named.
-fn count_of(known: &[Known], line: &PlainLine) -> u64
+fn count_of(known: &KnownLines, line: &PlainLine) -> u64
     ensures { result ≡ count_of known.now line.now }
 {
     match line {
         PlainLine::Block { .. } | PlainLine::Prism { .. } => 24,
         PlainLine::Combine { first, second, .. } => {
-            count_in(look(known, *first)) + count_in(look(known, *second))
+            count_in(known.look(*first)) + count_in(known.look(*second))
         }
         _ => 0,
     }
 }
 
 /// How deep the parts of a line stand in it.
-fn depth_of(known: &[Known], line: &PlainLine) -> u64
+fn depth_of(known: &KnownLines, line: &PlainLine) -> u64
     ensures { result ≡ depth_of known.now line.now }
 {
     match line {
         PlainLine::Block { .. } | PlainLine::Prism { .. } => 1,
         PlainLine::Combine { first, second, .. } => {
-            1 + depth_in(look(known, *first)).max(depth_in(look(known, *second)))
+            1 + depth_in(known.look(*first)).max(depth_in(known.look(*second)))
         }
         _ => 0,
     }
@@ -223,15 +217,16 @@ fn kind_of(line: &PlainLine) -> LineKind
 /// one.
 pub fn check_line(
     source: &[u8],
-    known: &[Known],
+    known: &KnownLines,
     line: &PlainLine,
     name: &Token,
     free: &[Token],
 ) -> Result<Known, usize>
     requires { All (IsTokenIn source.now) free.now }
-    ensures { MatchResult result
+    ensures rules { MatchResult result
         (λ found. (found ≡ entry known.now line.now) × (line_break source.now known.now (record { line = line.now; name = name.now; free = free.now }) ≡ None))
         (λ at. line_break source.now known.now (record { line = line.now; name = name.now; free = free.now }) ≡ Some at) }
+    ensures fresh { IfOk result (λ found. is_none (look known.now found.number) ≡ true) }
 {
     let number = number_of(line);
     if !is_fresh(known, number) {

@@ -9,12 +9,13 @@ ghost use Rattle.spec_step.specs.declared.token.TokenKind.TheVariants.{Number};
 ghost use Rattle.spec_step.specs.declared.line.Begun.TheVariants.{Solid};
 ghost use Rattle.step_text.specs.Wide.{IsTokenIn, IfNotBuilt, IsRead, AreReadToShape, DepartsBehindLines};
 
+use crate::known::KnownLines;
 use crate::lines::{Head, begun, line_of, read_head};
 use crate::plain::{PlainFault, end_behind, follow};
-use crate::rules::{check_line, is_solid, look, number_in};
+use crate::rules::{check_line, is_solid, number_in};
 use crate::slots::{expect, fill, line_slots};
 use crate::wide_fault::WideFault;
-use spec_step::{Begun, Known, LineKind, PlainLine, Slot, Token};
+use spec_step::{Begun, LineKind, PlainLine, Slot, Token};
 use std::alloc::{AllocError, Global};
 
 /// A file of solid lines: what they say, in their order, and the number of the line that is the
@@ -39,19 +40,19 @@ const BEHIND_ITEM: &[u8] =
 #[derive(Drop)]
 struct Book {
     lines: Vec<PlainLine>,
-    known: Vec<Known>,
+    known: KnownLines,
     broken: Option<usize>,
 }
 
 impl Book {
     fn new(alloc: Global) -> Book
         ensures lines { result.lines.items ≡ [] }
-        ensures known { result.known.items ≡ [] }
+        ensures known { result.known ≡ [] }
         ensures broken { result.broken ≡ None }
     {
         Book {
             lines: Vec::new(alloc),
-            known: Vec::new(alloc),
+            known: KnownLines::new(alloc),
             broken: None,
         }
     }
@@ -66,12 +67,12 @@ impl Book {
     ) -> Result<(), AllocError>
         requires { All (IsTokenIn source.now) free.now }
         ensures lines { OnOk result (self.new.lines.items ≡ self.old.lines.items ++ line ∷ []) }
-        ensures broken { OnOk result (self.new.broken ≡ or_then self.old.broken (line_break source.now self.old.known.items (record { line = line; name = name.now; free = free.now }))) }
-        ensures known { OnOk result (self.new.broken ≡ None → self.new.known.items ≡ self.old.known.items ++ entry self.old.known.items line ∷ []) }
+        ensures broken { OnOk result (self.new.broken ≡ or_then self.old.broken (line_break source.now self.old.known (record { line = line; name = name.now; free = free.now }))) }
+        ensures known { OnOk result (self.new.broken ≡ None → self.new.known ≡ self.old.known ++ entry self.old.known line ∷ []) }
     {
         if self.broken.is_none() {
-            match check_line(source, self.known.as_slice(), &line, name, free) {
-                Ok(found) => self.known.push(found)?,
+            match check_line(source, &self.known, &line, name, free) {
+                Ok(found) => self.known.add(found)?,
                 Err(at) => self.broken = Some(at),
             }
         }
@@ -84,8 +85,8 @@ impl Book {
         requires token { IsTokenIn source.now item.now }
         requires name { item.now.kind ≡ Number }
         ensures kept { MatchResult result
-            (λ plain. or_then self.broken (unless (is_of is_solid (look self.known.items (number_in source.now item.now))) item.now.from) ≡ None)
-            (λ fault. or_then self.broken (unless (is_of is_solid (look self.known.items (number_in source.now item.now))) item.now.from) ≡ Some fault.at) }
+            (λ plain. or_then self.broken (unless (is_of is_solid (look self.known (number_in source.now item.now))) item.now.from) ≡ None)
+            (λ fault. or_then self.broken (unless (is_of is_solid (look self.known (number_in source.now item.now))) item.now.from) ≡ Some fault.at) }
         ensures lines { IfOk result (λ plain. plain.lines.items ≡ self.lines.items) }
         ensures item { IfOk result (λ plain. plain.item ≡ number_in source.now item.now) }
     {
@@ -93,7 +94,7 @@ impl Book {
             return Err(PlainFault { at });
         }
         let number = number_in(source, item);
-        if !is_solid(look(self.known.as_slice(), number)) {
+        if !is_solid(self.known.look(number)) {
             return Err(PlainFault { at: item.from });
         }
         Ok(WidePlain {
@@ -116,8 +117,8 @@ fn read_line(
     requires word { head.now.word.end ≤ length source.now }
     ensures form { MatchResult result
         (λ end. (from : ℕ) → (at : ℕ) → IsHead source.now at head.now.name head.now.word → begun source.now head.now.name head.now.word ≡ Solid kind
-        → IsRead source.now from at book.old.lines.items book.old.known.items book.old.broken
-        → IsRead source.now from end book.new.lines.items book.new.known.items book.new.broken)
+        → IsRead source.now from at book.old.lines.items book.old.known book.old.broken
+        → IsRead source.now from end book.new.lines.items book.new.known book.new.broken)
         (λ fault. IfNotBuilt fault (Misses (line_slots kind) source.now head.now.word.end)) }
     ensures within { IfOk result (λ end. (head.now.word.end ≤ end) × (end ≤ length source.now)) }
 {
@@ -130,7 +131,7 @@ fn read_line(
 /// Reads the solid lines from a place, and answers where the keyword of the shape's line ends.
 fn read_lines(alloc: Global, source: &[u8], from: usize) -> Result<(Book, usize), WideFault>
     requires { from ≤ length source.now }
-    ensures form { MatchResult result (λ found. AreReadToShape source.now from found.0.lines.items found.0.known.items found.0.broken found.1)
+    ensures form { MatchResult result (λ found. AreReadToShape source.now from found.0.lines.items found.0.known found.0.broken found.1)
         (λ fault. IfNotBuilt fault (DepartsBehindLines source.now from)) }
     ensures within { IfOk result (λ found. found.1 ≤ length source.now) }
 {

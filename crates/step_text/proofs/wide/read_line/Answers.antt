@@ -26,8 +26,8 @@ returns-clause-form c from at head is read =
     let more : Stated = record { line = line; name = c.args.head.now.name; free = c.in_ok-free.free.items } in
     let stands : IsLineAt s at more c.in_ok-free.end =
     line_at s at c.in_ok-free.end c.args.kind line c.args.head.now.name c.args.head.now.word c.in_ok-free.free.items c.line_of-line.ensures.kind head is fills says in
-    read_more s from at c.in_ok-free.end c.args.book.now.lines.items c.add.new.self.lines.items c.args.book.now.known.items c.add.new.self.known.items
+    read_more s from at c.in_ok-free.end c.args.book.now.lines.items c.add.new.self.lines.items c.args.book.now.known c.add.new.self.known
     c.args.book.now.broken c.add.new.self.broken more read stands c.in_ok-add.ensures.lines
-    (subst (λ (x : List Token). c.add.new.self.broken ≡ or_then c.args.book.now.broken (line_break s c.args.book.now.known.items (record { line = line; name = c.args.head.now.name; free = x })))
+    (subst (λ (x : List Token). c.add.new.self.broken ≡ or_then c.args.book.now.broken (line_break s c.args.book.now.known (record { line = line; name = c.args.head.now.name; free = x })))
     c.as_slice-2.ensures.value c.in_ok-add.ensures.broken)
     c.in_ok-add.ensures.known

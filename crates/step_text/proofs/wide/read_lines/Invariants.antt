@@ -6,7 +6,7 @@ use Rattle.step_text.proofs.wide.read_lines.Given as goal
 abbrev pub invariant-loop-book : goal.invariant-loop-book
 invariant-loop-book l = record {
   within : l.at ≤ length l.source;
-  read : IsRead l.source l.from l.at l.book.lines.items l.book.known.items l.book.broken;
+  read : IsRead l.source l.from l.at l.book.lines.items l.book.known l.book.broken;
 }
 
 abbrev pub decreases-loop-book : goal.decreases-loop-book

@@ -25,21 +25,21 @@ pub returns-in_err-item-clause-form : goal.returns-in_err-item-clause-form
 unfolding before_lines
 returns-in_err-item-clause-form c =
     handed_on c.from_residual-in_err-item.result (NotBuilt c.in_err-item.field-0.0.at) _ _ c.from_residual-in_err-item.ensures.1
-    (shape_departs c.args.source.now c.in_ok-from.from c.in_ok-book.at c.in_err-item.field-0.0.at c.in_ok-book.book.lines.items c.in_ok-book.book.known.items c.in_ok-book.book.broken
+    (shape_departs c.args.source.now c.in_ok-from.from c.in_ok-book.at c.in_err-item.field-0.0.at c.in_ok-book.book.lines.items c.in_ok-book.book.known c.in_ok-book.book.broken
     c.in_ok-from.ensures.form c.in_ok-book.ensures.form c.in_err-item.ensures.form)
 
 pub returns-in_err-finish-clause-form : goal.returns-in_err-finish-clause-form
 unfolding before_lines
 returns-in_err-finish-clause-form c =
     handed_on c.from_residual-in_err-finish.result (NotBuilt c.in_err-finish.field-0.0.at) _ _ c.from_residual-in_err-finish.ensures.1
-    (file_breaks c.args.source.now c.in_ok-from.from c.in_ok-book.at c.in_err-finish.field-0.0.at c.in_ok-book.book.lines.items c.in_ok-book.book.known.items c.in_ok-book.book.broken
+    (file_breaks c.args.source.now c.in_ok-from.from c.in_ok-book.at c.in_err-finish.field-0.0.at c.in_ok-book.book.lines.items c.in_ok-book.book.known c.in_ok-book.book.broken
     c.in_ok-item.item c.in_ok-from.ensures.form c.in_ok-book.ensures.form c.in_ok-item.ensures.form c.in_err-finish.ensures.kept)
 
 kept : (c : goal.In_ok-finish) → IsKept c.args.source.now c.in_ok-finish.field-0.lines.items c.in_ok-finish.field-0.item
 unfolding before_lines
 kept c =
     subst (λ (x : List PlainLine). IsKept c.args.source.now x c.in_ok-finish.field-0.item) (sym c.in_ok-finish.ensures.lines)
-    (file_kept c.args.source.now c.in_ok-from.from c.in_ok-book.at c.in_ok-book.book.lines.items c.in_ok-book.book.known.items c.in_ok-book.book.broken
+    (file_kept c.args.source.now c.in_ok-from.from c.in_ok-book.at c.in_ok-book.book.lines.items c.in_ok-book.book.known c.in_ok-book.book.broken
     c.in_ok-item.item c.in_ok-finish.field-0.item c.in_ok-from.ensures.form c.in_ok-book.ensures.form c.in_ok-item.ensures.form c.in_ok-finish.ensures.kept c.in_ok-finish.ensures.item)
 
 pub returns-clause-form : goal.returns-clause-form
