@@ -1,5 +1,5 @@
 -- The solid of a file that keeps the rules is opened whole: to open more solids one in the other changes nothing.
-use Rattle.std.proofs.Common.{◌≡◌, ℕ, zero, suc, ◌+◌, ◌≤◌, max, List, [], Option, Some, None, refl, sym, ap, ◌∙◌, arith}
+use Rattle.std.proofs.Common.{◌≡◌, ℕ, zero, suc, ◌+◌, ◌≤◌, max, List, [], Option, Some, None, refl, sym, ap, arith}
 use Rattle.spec_step.specs.Rules.{look, known_after, depth_in, is_solid}
 use Rattle.spec_step.specs.Sound.{AreLines}
 use Rattle.spec_step.specs.declared.line.PlainLine.{PlainLine}

@@ -5,7 +5,7 @@ use Rattle.std.specs.Option.{option_or}
 use Rattle.std.proofs.lemmas.Bool.{eq-eqb}
 use Rattle.std.proofs.lemmas.List.{take-append-drop}
 use Rattle.std.proofs.lemmas.List.Folds.{find-append}
-use Rattle.spec_step.specs.Rules.{look, number_of, entry, known_after, count_in}
+use Rattle.spec_step.specs.Rules.{look, number_of, entry, known_after}
 use Rattle.spec_step.specs.Sound.{IsEarlier}
 use Rattle.spec_step.specs.declared.line.LineKind.{LineKind}
 use Rattle.spec_step.specs.declared.line.PlainLine.{PlainLine}
