@@ -7,7 +7,7 @@ use Rattle.spec_step.specs.declared.line.PlainLine.TheVariants.{Point, Axes, Blo
 use Rattle.spec_run.specs.Walls.{line_at}
 use Rattle.box_lines.specs.Counts.{boxes_by, boxes_at}
 use Rattle.box_lines.proofs.Opened.{one_less}
-use Rattle.box_lines.proofs.Known.{line_known, earlier_found, earlier_count}
+use Rattle.box_lines.proofs.Known.{line_known, earlier_found, earlier_known}
 
 sum_below : (a b x y u v n : ℕ) → 24 * a ≤ u → 24 * b ≤ v → u ≡ x → v ≡ y → n ≡ x + y → 24 * (a + b) ≤ n
 sum_below a b x y u v n p q r s t = omega arith
@@ -28,7 +28,7 @@ line_counted s lines item n boxes (Some (Combine number difference first second)
     let k = line_known lines n (Combine number difference first second) e in
     let parts = (h.each k.place (Combine number difference first second) k.get).parts in
     sum_below (boxes first) (boxes second) _ _ _ _ _ (below first) (below second)
-    (earlier_count is_solid lines k.place first parts.0) (earlier_count is_solid lines k.place second parts.1) (ap count_in k.look)
+    (ap count_in (earlier_known is_solid lines k.place first parts.0)) (ap count_in (earlier_known is_solid lines k.place second parts.1)) (ap count_in k.look)
 
 counted : (s : List ℕ) (lines : List PlainLine) (item deep n : ℕ) → AreLines s lines item → 24 * boxes_at deep lines n ≤ count_in (look (known_after [] lines) n)
 unfolding boxes_at

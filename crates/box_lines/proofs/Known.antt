@@ -5,7 +5,7 @@ use Rattle.std.specs.Option.{option_or}
 use Rattle.std.proofs.lemmas.Bool.{eq-eqb}
 use Rattle.std.proofs.lemmas.List.{take-append-drop}
 use Rattle.std.proofs.lemmas.List.Folds.{find-append}
-use Rattle.spec_step.specs.Rules.{look, number_of, entry, known_after, count_in}
+use Rattle.spec_step.specs.Rules.{look, number_of, entry, known_after}
 use Rattle.spec_step.specs.Sound.{IsEarlier}
 use Rattle.spec_step.specs.declared.line.LineKind.{LineKind}
 use Rattle.spec_step.specs.declared.line.PlainLine.{PlainLine}
@@ -80,11 +80,11 @@ known_append known [] ys = refl
 known_append known (x ∷ xs) ys = known_append (known ++ entry known x ∷ []) xs ys
 
 -- of an earlier line later lines change nothing
-pub earlier_count : (test : LineKind → Bool) (lines : List PlainLine) (i n : ℕ) → IsEarlier test (take i lines) n
-    → count_in (look (known_after [] lines) n) ≡ count_in (look (known_after [] (take i lines)) n)
-earlier_count test lines i n h =
+pub earlier_known : (test : LineKind → Bool) (lines : List PlainLine) (i n : ℕ) → IsEarlier test (take i lines) n
+    → look (known_after [] lines) n ≡ look (known_after [] (take i lines)) n
+earlier_known test lines i n h =
     let found = earlier_found test (take i lines) n h in
     let k = line_known (take i lines) n found.0 found.1 in
     let all : known_after [] lines ≡ known_after (known_after [] (take i lines)) (drop i lines) =
     ap (known_after []) (sym (take-append-drop i lines)) ∙ known_append [] (take i lines) (drop i lines) in
-    ap count_in (ap (λ x. look x n) all ∙ kept_known (known_after [] (take i lines)) n _ (drop i lines) k.look ∙ sym k.look)
+    ap (λ x. look x n) all ∙ kept_known (known_after [] (take i lines)) n _ (drop i lines) k.look ∙ sym k.look

@@ -5,3 +5,4 @@ pub mod Bounded
 pub mod Known
 pub mod Counted
 pub mod FewPlanes
+pub mod Deep

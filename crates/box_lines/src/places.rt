@@ -33,25 +33,11 @@ pub fn line_at(lines: &[PlainLine], number: u64) -> Option<PlainLine>
 }
 
 /// The lengths of three numbers along x, y and z, in nanometres.
-fn lengths_at(source: &[u8], numbers: &[Span; 3]) -> Vector
+pub fn lengths_at(source: &[u8], numbers: &[Span; 3]) -> Vector
     requires { All (IsCoordinate source.now 500000) numbers.now }
     ensures value { result ≡ lengths_at source.now numbers.now }
     ensures small { IsSmall (5 * 10 ^ 11) result }
-{
-    let [x, y, z] = numbers;
-    Vector {
-        x: length_at(source, *x),
-        y: length_at(source, *y),
-        z: length_at(source, *z),
-    }
-}
-
-/// The extents of a block along x, y and z, in nanometres.
-pub fn sizes_at(source: &[u8], numbers: &[Span; 3]) -> Vector
-    requires { All (IsExtent source.now 500000) numbers.now }
-    ensures value { result ≡ lengths_at source.now numbers.now }
-    ensures small { IsSmall (5 * 10 ^ 11) result }
-    ensures above { AreSizes result }
+    ensures above { All (IsExtent source.now 500000) numbers.now → AreSizes result }
 {
     let [x, y, z] = numbers;
     Vector {

@@ -10,7 +10,7 @@ ghost use Rattle.box_lines.specs.Sizes.{IsBounded};
 ghost use Rattle.box_lines.specs.Counts.{boxes_at};
 
 use crate::lengths::{bounds, length_at, lower_end};
-use crate::places::{ORIGIN, extents_at, line_at, place_at, sizes_at};
+use crate::places::{ORIGIN, extents_at, lengths_at, line_at, place_at};
 use box_mesh::Bounds;
 use box_solids::{BoxSolid, Operator};
 use spec_space::Vector;
@@ -35,7 +35,7 @@ fn block(source: &[u8], lines: &[PlainLine], axes: u64, sizes: &[Span; 3]) -> Bo
     requires sizes { All (IsExtent source.now 500000) sizes.now }
     ensures { solid_of (Leaf result) ≡ block (place_of source.now lines.now (line_at lines.now axes)) (lengths_at source.now sizes.now) }
 {
-    bounds(&place_at(source, lines, axes), &sizes_at(source, sizes))
+    bounds(&place_at(source, lines, axes), &lengths_at(source, sizes))
 }
 
 /// The box of the extrusion of a rectangle that is centred on 0, by its extents in nanometres.
