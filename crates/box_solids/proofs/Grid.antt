@@ -1,11 +1,11 @@
 -- The planes of a box's triangles: many times one of its walls, or the diagonal from one side or the other.
-use Rattle.std.proofs.Common.{◌≡◌, ◌≢◌, ℤ, pos, negsuc, ◌+ℤ◌, ◌*ℤ◌, ◌-ℤ◌, neg_ℤ, ◌<ℤ◌, List, [], ◌∷◌, ◌⊎◌, inl, inr, refl, ap, arith}
+use Rattle.std.proofs.Common.{◌≡◌, ◌≢◌, ℤ, pos, ◌*ℤ◌, ◌-ℤ◌, neg_ℤ, ◌<ℤ◌, List, [], ◌∷◌, ◌⊎◌, inl, inr, refl, arith}
 use Rattle.std.specs.List.{flat_map, All, Contains}
 use Rattle.std.proofs.lemmas.Int.{ints}
 use Rattle.std.proofs.lemmas.List.Elements.{All-nil, All-append}
 use Rattle.spec_space.specs.declared.Plane.{Plane}
 use Rattle.spec_space.specs.declared.Vector.{Vector}
-use Rattle.spec_solid.specs.Triangles.{Triangle, turn}
+use Rattle.spec_solid.specs.Triangles.{Triangle}
 use Rattle.spec_solid.specs.Planes.{plane_through, upright_plane, triangle_planes}
 use Rattle.spec_solid.specs.Extrusions.{face_triangles}
 use Rattle.box_mesh.specs.Boxes.{place, quadrilateral, box_faces}

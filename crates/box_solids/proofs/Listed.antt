@@ -1,5 +1,5 @@
 -- The planes of an element of boxes are the reduced forms of the listed ones.
-use Rattle.std.proofs.Common.{◌≡◌, ◌≢◌, ℤ, pos, negsuc, ◌+ℤ◌, ◌*ℤ◌, ◌-ℤ◌, neg_ℤ, ◌<ℤ◌, ◌≤ℤ◌, int_lt, Bool, true, false, ◌&&◌, List, [], ◌∷◌, ◌++◌, ◌⊎◌, inl, inr, refl, sym, ap, subst, ◌∙◌, arith, true≢false}
+use Rattle.std.proofs.Common.{◌≡◌, ◌≢◌, ℤ, pos, ◌*ℤ◌, ◌-ℤ◌, neg_ℤ, ◌<ℤ◌, ◌≤ℤ◌, int_lt, Bool, true, false, ◌&&◌, List, [], ◌∷◌, ◌++◌, ◌⊎◌, inl, inr, refl, sym, ap, subst, ◌∙◌, arith, true≢false}
 use Rattle.std.specs.Prelude.{◌↔◌, if◌then◌else◌}
 use Rattle.std.specs.List.{flat_map, All, Contains}
 use Rattle.std.proofs.lemmas.Int.{ints}
@@ -7,19 +7,17 @@ use Rattle.std.proofs.lemmas.List.Elements.{All-nil, All-cons, All-append, All-h
 use Rattle.spec_space.specs.declared.Plane.{Plane}
 use Rattle.spec_space.specs.declared.Vector.{Vector}
 use Rattle.spec_solid.specs.Triangles.{Triangle}
-use Rattle.spec_solid.specs.Solids.{Solid}
-use Rattle.spec_solid.specs.Planes.{upright_plane, triangle_planes, solid_planes, body_planes, LeadsPositive, IsTimes, IsReduced, IsPlaneOf}
+use Rattle.spec_solid.specs.Planes.{upright_plane, triangle_planes, solid_planes, IsTimes, IsReduced, IsPlaneOf}
 use Rattle.plane_core.specs.Books.{x_plane, y_plane, z_plane}
 use Rattle.plane_core.specs.Planes.{IsReductionOf}
 use Rattle.plane_core.specs.Views.{plane_of}
 use Rattle.plane_core.specs.declared.numbers.Plane.{Plane as BookPlane}
 use Rattle.plane_core.proofs.Laws.{reduced_is_reduced}
-use Rattle.integer_laws.proofs.Ring.{*ℤ_assoc, *ℤ_comm, var, con, neg, ◌⊗◌, ◌⊖◌, ring}
-use Rattle.integer_laws.proofs.Products.{zero_left, zero_right, size_factor, size_positive}
+use Rattle.integer_laws.proofs.Ring.{var, neg, ◌⊗◌, ◌⊖◌, ring}
 use Rattle.box_mesh.specs.declared.bounds.Bounds.{Bounds}
 use Rattle.box_mesh.proofs.Orders.{from_test_false}
 use Rattle.box_mesh.proofs.Planes.{IsManyX, IsManyY, IsManyZ, IsReducedOf, reduce_x, reduce_y, reduce_z}
-use Rattle.box_solids.specs.Trees.{Tree, Leaf, Joined, solid_of, body_of, has_walls, six_walls, diagonal, walls_of, planes_of, IsListed}
+use Rattle.box_solids.specs.Trees.{Tree, Leaf, Joined, solid_of, body_of, has_walls, six_walls, diagonal, planes_of, IsListed}
 use Rattle.box_solids.proofs.Grid.{grid_triangles, OfPlanes, each_grid_plane, no_grid_plane, IsGridPlane, left_plane, right_plane, front_plane, back_plane, bottom_plane, top_plane, diagonal_plane}
 
 -- each reduced form of the plane is one of the list's planes, but for a factor

@@ -1,7 +1,7 @@
 -- The meaning of an element of boxes at a point is told by the walls that the point lies in front of.
-use Rattle.std.proofs.Common.{◌≡◌, ◌≢◌, ℕ, ℤ, pos, ◌+ℤ◌, ◌*ℤ◌, ◌-ℤ◌, ◌<ℤ◌, ◌≤ℤ◌, int_lt, int_le, Bool, true, false, not, ◌&&◌, ◌||◌, List, [], ◌∷◌, ◌++◌, ◌⊎◌, inl, inr, refl, sym, ap, ap₂, ◌∙◌, arith}
+use Rattle.std.proofs.Common.{◌≡◌, ◌≢◌, ℤ, pos, ◌*ℤ◌, ◌-ℤ◌, ◌<ℤ◌, ◌≤ℤ◌, int_lt, int_le, Bool, true, false, not, ◌&&◌, ◌||◌, [], inl, inr, refl, sym, ap, ap₂, ◌∙◌, arith}
 use Rattle.std.specs.Prelude.{if◌then◌else◌}
-use Rattle.std.specs.List.{All, Contains}
+use Rattle.std.specs.List.{Contains}
 use Rattle.std.proofs.lemmas.Int.{ints, by_lt_z}
 use Rattle.std.proofs.lemmas.List.Elements.{Contains-append_left, Contains-append_right}
 use Rattle.spec_space.specs.declared.Plane.{Plane}
@@ -9,7 +9,7 @@ use Rattle.spec_space.specs.declared.Point.{Point}
 use Rattle.spec_space.specs.Points.{IsPoint, value}
 use Rattle.spec_solid.specs.Solids.{truth, is_inside, is_meant}
 use Rattle.plane_core.specs.Books.{x_plane, y_plane, z_plane}
-use Rattle.box_mesh.specs.Boxes.{grid_body, is_between, is_in_box}
+use Rattle.box_mesh.specs.Boxes.{is_between, is_in_box}
 use Rattle.box_mesh.specs.declared.bounds.Bounds.{Bounds}
 use Rattle.box_mesh.proofs.Inside.{box_meaning}
 use Rattle.box_mesh.proofs.Orders.{test_true, test_false}

@@ -1,5 +1,5 @@
 -- The meaning at the two neighbours of a point that is alone on a plane, and at two points on the same sides.
-use Rattle.std.proofs.Common.{◌≡◌, ◌≢◌, ◌≤◌, ◌^◌, ℕ, ℤ, pos, negsuc, ◌+ℤ◌, ◌*ℤ◌, ◌-ℤ◌, ◌<ℤ◌, ◌≤ℤ◌, unsigned_abs, int_lt, int_eq, Bool, true, false, not, ◌&&◌, List, [], ◌∷◌, refl, sym, ap, ap₂, subst, ◌∙◌, arith, true≢false}
+use Rattle.std.proofs.Common.{◌≡◌, ◌≢◌, ◌≤◌, ◌^◌, ℤ, pos, ◌+ℤ◌, ◌*ℤ◌, ◌-ℤ◌, ◌<ℤ◌, ◌≤ℤ◌, unsigned_abs, int_lt, int_eq, Bool, true, false, ◌&&◌, List, [], ◌∷◌, refl, sym, ap, subst, ◌∙◌, arith, true≢false}
 use Rattle.std.specs.Prelude.{if◌then◌else◌}
 use Rattle.std.specs.List.{Contains}
 use Rattle.std.proofs.lemmas.Int.{ints, by_lt_z}
@@ -7,18 +7,14 @@ use Rattle.std.proofs.lemmas.Bool.Decides.{Decides-int_eq}
 use Rattle.spec_space.specs.declared.Plane.{Plane}
 use Rattle.spec_space.specs.declared.Point.{Point}
 use Rattle.spec_space.specs.Points.{IsPoint, value, normal, dot}
-use Rattle.spec_solid.specs.Solids.{Operator, Union, Intersection, Difference, truth, is_meant}
+use Rattle.spec_solid.specs.Solids.{is_meant}
 use Rattle.spec_solid.specs.Planes.{IsPlaneOf, IsAlone, front_of, back_of}
-use Rattle.plane_core.specs.Books.{x_plane, y_plane, z_plane}
 use Rattle.plane_core.specs.Views.{plane_of}
 use Rattle.plane_core.specs.declared.numbers.Plane.{Plane as BookPlane}
 use Rattle.integer_laws.proofs.Ring.{Expr, var, ◌⊕◌, ◌⊗◌, ◌⊖◌, ring}
-use Rattle.integer_laws.proofs.Signs.{mul_positive, scaled_le}
-use Rattle.box_mesh.specs.declared.bounds.Bounds.{Bounds}
+use Rattle.integer_laws.proofs.Signs.{mul_positive}
 use Rattle.box_mesh.proofs.Orders.{test_true, test_false}
-use Rattle.box_mesh.proofs.Sides.{value_x, value_y, value_z}
-use Rattle.box_solids.specs.Trees.{Tree, Leaf, Joined, body_of, has_walls, walls_of, is_between_walls, told_by, is_in_front, is_plane, is_in_front_across}
-use Rattle.box_solids.specs.Far.{IsFar, far_left, far_right, far_front, far_back, far_down, far_up}
+use Rattle.box_solids.specs.Trees.{Tree, body_of, walls_of, told_by, is_in_front, is_plane, is_in_front_across}
 use Rattle.box_solids.proofs.Meaning.{Tells, told_at}
 use Rattle.box_solids.proofs.WallPlanes.{IsWall, across_x, across_y, across_z, is_wall, wall_is_plane}
 

@@ -1,5 +1,5 @@
 -- Books that hold the planes of an element, and flags for the sides of these planes.
-use Rattle.std.specs.Prelude.{◌≡◌, ◌≢◌, ◌↔◌, ◌^◌, ◌≤◌, ◌<◌, ◌+◌, ◌-◌, ℕ, pos, unsigned_abs, Bool, List, length, slice_get, Some, Contains}
+use Rattle.std.specs.Prelude.{◌≡◌, ◌≢◌, ◌^◌, ◌≤◌, ◌<◌, ◌+◌, ◌-◌, ℕ, pos, unsigned_abs, Bool, List, length, slice_get, Some, Contains}
 use Rattle.spec_space.specs.declared.Plane.{Plane}
 use Rattle.spec_space.specs.declared.Point.{Point}
 use Rattle.spec_space.specs.Points.{value}

@@ -1,5 +1,5 @@
 -- Trees of boxes: the solids that they stand for, the planes of these, and their meaning told by the sides of a point.
-use Rattle.std.specs.Prelude.{◌≡◌, ◌≢◌, ℤ, pos, ◌*ℤ◌, ◌<ℤ◌, int_lt, Bool, true, false, not, ◌&&◌, List, [], ◌∷◌, ◌++◌, Contains, if◌then◌else◌}
+use Rattle.std.specs.Prelude.{◌≢◌, ℤ, pos, int_lt, Bool, not, ◌&&◌, List, [], ◌∷◌, ◌++◌, Contains, if◌then◌else◌}
 use Rattle.std.specs.Ordering.{int_eq}
 use Rattle.std.specs.List.{flat_map}
 use Rattle.spec_space.specs.declared.Plane.{Plane}
@@ -7,7 +7,7 @@ use Rattle.spec_space.specs.declared.Point.{Point}
 use Rattle.spec_space.specs.Points.{value}
 use Rattle.spec_solid.specs.Solids.{Operator, Solid, Shell, Combined, Body, truth}
 use Rattle.spec_solid.specs.Extrusions.{face_triangles}
-use Rattle.spec_solid.specs.Planes.{upright_plane, IsReduced, IsTimes}
+use Rattle.spec_solid.specs.Planes.{upright_plane, IsTimes}
 use Rattle.plane_core.specs.Books.{x_plane, y_plane, z_plane}
 use Rattle.box_mesh.specs.Boxes.{box_faces}
 use Rattle.box_mesh.specs.declared.bounds.Bounds.{Bounds}

@@ -1,4 +1,3 @@
-use Rattle.std.proofs.Common.{ap, ◌∙◌}
 use Rattle.box_solids.specs.Views.{operator_of, tree_of}
 use Rattle.box_solids.proofs.Additions.{added_joined}
 use Rattle.box_solids.proofs.Folds.{joined_tree}
