@@ -1,5 +1,5 @@
 -- A piece as a face: it has the boundary at each of its points that is alone on its plane.
-use Rattle.std.proofs.Common.{◌≡◌, ◌≢◌, ◌⊎◌, inl, inr, ℕ, ◌+◌, ◌<◌, ◌≤◌, Bool, true, false, not, cond, List, [], ◌∷◌, ◌++◌, length, map, take, get_or, slice_get, Option, Some, ℤ, pos, All, refl, sym, ap, ap₂, subst, ◌∙◌, append_assoc, arith}
+use Rattle.std.proofs.Common.{◌≡◌, ◌≢◌, ℕ, ◌<◌, ◌≤◌, Bool, true, false, List, [], ◌∷◌, ◌++◌, length, map, get_or, slice_get, Some, pos, All, refl, sym, ap, ap₂, subst, ◌∙◌, arith}
 use Rattle.std.specs.Prelude.{filter, if◌then◌else◌}
 use Rattle.std.proofs.lemmas.List.Elements.{filter-append, All-push, All-weaker}
 use Rattle.std.proofs.lemmas.Option.{slice_get-get_or}
@@ -7,7 +7,7 @@ use Rattle.spec_space.specs.declared.Plane.{Plane}
 use Rattle.spec_space.specs.declared.Point.{Point}
 use Rattle.spec_space.specs.Points.{IsPoint, value, opposite}
 use Rattle.spec_solid.specs.Solids.{is_meant}
-use Rattle.spec_solid.specs.Planes.{IsPlaneOf, IsAlone, front_of, back_of, boundary_at}
+use Rattle.spec_solid.specs.Planes.{IsAlone, front_of, back_of, boundary_at}
 use Rattle.spec_page.specs.Element.{Face}
 use Rattle.spec_page.specs.Faces.{lies_on}
 use Rattle.plane_core.specs.declared.numbers.Plane.{Plane as BookPlane}
@@ -18,7 +18,7 @@ use Rattle.poly_frag.specs.Cycles.{IsFragment}
 use Rattle.poly_frag.specs.declared.frag.Frag.{Frag}
 use Rattle.plane_pieces.specs.Points.{holds}
 use Rattle.plane_pieces.specs.declared.sides.Piece.{Piece}
-use Rattle.plane_pieces.proofs.Held.{same_flag, no_flag, inside_from_held, held_from_inside}
+use Rattle.plane_pieces.proofs.Held.{same_flag, inside_from_held, held_from_inside}
 use Rattle.box_solids.specs.Trees.{Tree, body_of, told_by, is_in_front_across}
 use Rattle.box_solids.specs.Books.{ArePlanesOf}
 use Rattle.box_solids.proofs.Neighbours.{neighbour_in_front, neighbour_behind}

@@ -1,5 +1,5 @@
 -- The flags of a piece tell on which side of each plane the neighbours of its points lie.
-use Rattle.std.proofs.Common.{◌≡◌, ◌≢◌, ◌⊎◌, inl, inr, ℕ, zero, suc, ◌+◌, ◌-◌, ◌<◌, ◌≤◌, Bool, true, false, List, [], ◌∷◌, length, get_or, slice_get, Option, Some, ℤ, pos, ◌<ℤ◌, ◌≤ℤ◌, refl, sym, ap, subst, ◌∙◌, arith}
+use Rattle.std.proofs.Common.{◌≡◌, ◌≢◌, inl, inr, ℕ, zero, suc, ◌+◌, ◌-◌, ◌<◌, ◌≤◌, Bool, true, false, List, [], ◌∷◌, length, get_or, slice_get, Some, ℤ, pos, ◌<ℤ◌, ◌≤ℤ◌, refl, sym, ap, subst, ◌∙◌, arith}
 use Rattle.std.specs.Prelude.{set, if◌then◌else◌}
 use Rattle.std.proofs.lemmas.Int.{ints}
 use Rattle.std.proofs.lemmas.Bool.{cases_eq}
@@ -9,15 +9,14 @@ use Rattle.spec_space.specs.declared.Point.{Point}
 use Rattle.spec_space.specs.Points.{IsPoint, value}
 use Rattle.plane_core.specs.declared.numbers.Plane.{Plane as BookPlane}
 use Rattle.plane_core.specs.Views.{plane_of}
-use Rattle.poly_frag.specs.Frags.{numbered, plane_at, support_of, IsInside}
+use Rattle.poly_frag.specs.Frags.{numbered, support_of, IsInside}
 use Rattle.box_mesh.proofs.Orders.{test_true, test_false}
-use Rattle.box_solids.specs.Trees.{Tree, told_by, is_in_front, is_plane, is_in_front_across}
+use Rattle.box_solids.specs.Trees.{is_in_front, is_plane, is_in_front_across}
 use Rattle.box_solids.specs.Books.{AreFlagsOf}
 use Rattle.box_solids.proofs.Neighbours.{same_from_test, test_itself}
 use Rattle.plane_pieces.specs.Points.{IsOnSide}
 use Rattle.plane_pieces.specs.Pieces.{TellsSide, TellsSides}
 use Rattle.plane_pieces.specs.declared.sides.Piece.{Piece}
-use Rattle.plain_engine.specs.Meanings.{AreMeaningsAt}
 
 -- ---- sides across a plane on which the point lies
 off_side : (flag : Bool) (k : Plane) (p : Point) → IsOnSide flag k p → value k p ≢ pos 0

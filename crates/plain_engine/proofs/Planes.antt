@@ -1,6 +1,6 @@
 -- The pieces of one plane of the element have its boundary, and no other plane has points of them that are alone on it.
-use Rattle.std.proofs.Common.{◌≡◌, ◌≢◌, ◌⊎◌, inl, inr, ℕ, zero, suc, ◌+◌, ◌<◌, ◌≤◌, Bool, true, false, cond, List, [], ◌∷◌, ◌++◌, length, map, take, get_or, slice_get, Option, Some, ℤ, pos, negsuc, ◌*ℤ◌, ◌<ℤ◌, ◌≤ℤ◌, All, refl, sym, ap, ap₂, subst, ◌∙◌, append_assoc, arith}
-use Rattle.std.specs.Prelude.{filter, if◌then◌else◌}
+use Rattle.std.proofs.Common.{◌≡◌, ◌≢◌, ◌⊎◌, inl, inr, ℕ, ◌+◌, ◌<◌, ◌≤◌, Bool, true, false, cond, List, [], ◌∷◌, ◌++◌, length, take, get_or, slice_get, Some, ℤ, pos, negsuc, ◌*ℤ◌, ◌<ℤ◌, ◌≤ℤ◌, All, refl, sym, ap, ap₂, subst, ◌∙◌, append_assoc, arith}
+use Rattle.std.specs.Prelude.{if◌then◌else◌}
 use Rattle.std.proofs.lemmas.Int.{ints, by_lt_z}
 use Rattle.std.proofs.lemmas.Bool.{cases_lt}
 use Rattle.std.proofs.lemmas.List.{take_more, take_all}
@@ -8,8 +8,7 @@ use Rattle.std.proofs.lemmas.Option.{slice_get_within}
 use Rattle.spec_space.specs.declared.Plane.{Plane}
 use Rattle.spec_space.specs.declared.Point.{Point}
 use Rattle.spec_space.specs.Points.{IsPoint, value, opposite}
-use Rattle.spec_solid.specs.Solids.{is_meant}
-use Rattle.spec_solid.specs.Planes.{IsPlaneOf, IsAlone, front_of, back_of, boundary_at}
+use Rattle.spec_solid.specs.Planes.{IsAlone, boundary_at}
 use Rattle.spec_page.specs.Element.{Face}
 use Rattle.plane_core.specs.declared.numbers.Plane.{Plane as BookPlane}
 use Rattle.plane_core.specs.declared.book.PlaneId.{PlaneId}
@@ -19,7 +18,7 @@ use Rattle.plane_core.proofs.Books.{same_plane}
 use Rattle.plane_core.proofs.Laws.{one_number}
 use Rattle.convex_cycles.proofs.Lists.{Each, each_from_all}
 use Rattle.poly_frag.specs.Cubes.{IsInsideCube}
-use Rattle.poly_frag.specs.Frags.{numbered, plane_at, support_of}
+use Rattle.poly_frag.specs.Frags.{numbered, plane_at}
 use Rattle.plane_pieces.specs.Points.{holds}
 use Rattle.plane_pieces.specs.Pieces.{pieces_at, IsOffBelow, CoverPlane}
 use Rattle.plane_pieces.specs.declared.sides.Piece.{Piece}

@@ -1,9 +1,9 @@
 -- The printed element of a whole mesh.
-use Rattle.std.proofs.Common.{◌≡◌, ◌≢◌, ◌⊎◌, inl, inr, ℕ, zero, suc, ◌+◌, ◌*◌, ◌<◌, ◌≤◌, ◌^◌, Bool, true, false, List, [], ◌∷◌, ◌++◌, length, map, take, reverse, get_or, slice_get, slice_index_or, Option, Some, Contains, Any, ℤ, pos, negsuc, neg_ℤ, ◌+ℤ◌, ◌-ℤ◌, ◌*ℤ◌, ◌<ℤ◌, ◌≤ℤ◌, unsigned_abs, All, refl, sym, ap, ap₂, subst, ◌∙◌, arith}
+use Rattle.std.proofs.Common.{◌≡◌, ◌⊎◌, inl, inr, ℕ, ◌+◌, ◌*◌, ◌<◌, ◌≤◌, ◌^◌, Bool, true, false, List, [], ◌∷◌, ◌++◌, length, map, take, get_or, ℤ, pos, negsuc, neg_ℤ, ◌+ℤ◌, ◌-ℤ◌, ◌*ℤ◌, ◌<ℤ◌, ◌≤ℤ◌, unsigned_abs, All, refl, sym, ap, subst, ◌∙◌, arith}
 use Rattle.std.specs.Int.{int_div_euclid}
 use Rattle.std.proofs.lemmas.Int.{ints}
 use Rattle.std.proofs.lemmas.List.{length-map, take_more, take_all}
-use Rattle.std.proofs.lemmas.Option.{get_or_from_slice_get, slice_get_within}
+use Rattle.std.proofs.lemmas.Option.{slice_get_within}
 use Rattle.std.proofs.lemmas.List.Elements.{All-nil, All-weaker}
 use Rattle.integer_laws.proofs.Ring.{*ℤ_comm}
 use Rattle.integer_laws.proofs.Signs.{unscaled_lt}
@@ -11,20 +11,18 @@ use Rattle.ix_num.proofs.Division.{floor_low, floor_high}
 use Rattle.spec_num.specs.Rounding.{round_of}
 use Rattle.spec_num.specs.Words.{within_128_bits}
 use Rattle.spec_space.specs.declared.Plane.{Plane}
-use Rattle.spec_space.specs.declared.Point.{Point}
 use Rattle.spec_space.specs.declared.Vector.{Vector}
-use Rattle.spec_space.specs.Points.{IsPoint, opposite, minus}
+use Rattle.spec_space.specs.Points.{opposite, minus}
 use Rattle.spec_solid.specs.Solids.{Body}
-use Rattle.spec_solid.specs.Planes.{IsPlaneOf, IsAlone, boundary_at}
-use Rattle.spec_page.specs.declared.Corner.{Corner as PageCorner}
+use Rattle.spec_solid.specs.Planes.{IsPlaneOf}
 use Rattle.spec_page.specs.Element.{Face, Element, world_frame}
 use Rattle.spec_page.specs.Faces.{IsFull}
 use Rattle.spec_page.specs.World.{rounded_image}
 use Rattle.spec_headline.specs.Headline.{IsPrintOf}
 use Rattle.plane_core.specs.declared.numbers.Plane.{Plane as BookPlane}
 use Rattle.plane_core.specs.declared.numbers.Corner.{Corner}
-use Rattle.plane_core.specs.Views.{plane_of, point_of}
-use Rattle.convex_cycles.proofs.Lists.{Each, Member, each_member, each_from_all, all_from_each}
+use Rattle.plane_core.specs.Views.{point_of}
+use Rattle.convex_cycles.proofs.Lists.{Each, each_from_all, all_from_each}
 use Rattle.poly_frag.specs.Frags.{numbered, kept_side, support_of}
 use Rattle.poly_frag.specs.Cycles.{IsFragment}
 use Rattle.box_solids.specs.Books.{ArePlanesOf}
@@ -32,10 +30,10 @@ use Rattle.exact_mesh.specs.Meshes.{face_of, vector_of, vector_at, mesh_volume}
 use Rattle.exact_mesh.specs.Ranges.{IsWithin, AreNear}
 use Rattle.exact_mesh.specs.declared.mesh.MeshFace.{MeshFace}
 use Rattle.exact_mesh.proofs.Prints.{printed_volume_is}
-use Rattle.piece_mesh.specs.Builders.{AreDistinct, AreUsed}
+use Rattle.piece_mesh.specs.Builders.{AreDistinct}
 use Rattle.piece_mesh.specs.Pieces.{AreAt, AreFacesOf, Piece as DrawnPiece}
 use Rattle.piece_mesh.specs.Sizes.{IsWithinReach}
-use Rattle.piece_mesh.proofs.Rows.{each_reverse, map-append}
+use Rattle.piece_mesh.proofs.Rows.{map-append}
 use Rattle.piece_mesh.proofs.Reach.{corners-AreWithinReach}
 use Rattle.piece_mesh.proofs.Scaled.{x_image, y_image, z_image}
 use Rattle.piece_mesh.proofs.Faces.{HasCorners, face-IsFull, exact-IsPoint, exact_differ, exact_used}

@@ -1,5 +1,5 @@
 -- Meshes in the making: their faces are pieces of planes of the element, on its boundary.
-use Rattle.std.specs.Prelude.{◌≡◌, ◌≢◌, ◌≤◌, ◌<◌, ◌^◌, ◌*◌, ℕ, Bool, List, [], ◌++◌, map, filter, unsigned_abs, slice_get, Some, All, if◌then◌else◌}
+use Rattle.std.specs.Prelude.{◌≡◌, ◌≢◌, ◌≤◌, ℕ, Bool, List, [], ◌++◌, map, filter, slice_get, Some, All, if◌then◌else◌}
 use Rattle.spec_space.specs.declared.Point.{Point}
 use Rattle.spec_space.specs.declared.Plane.{Plane}
 use Rattle.spec_space.specs.Points.{IsPoint}

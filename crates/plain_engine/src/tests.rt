@@ -109,10 +109,8 @@ fn leaves_out_the_wall_between_two_boxes_that_touch(rt: HostRuntime) -> Result<(
     // The bottom and the top have two triangles for each box, the long sides one rectangle, and the ends are whole.
     assert_eq!(rt; m.mesh.faces.len(), 14);
     assert_eq!(rt; m.mesh.corners.len(), 12);
-    assert_eq!(rt;
-        count_on(&m.mesh, [1, 0, 0, 2]) + count_on(&m.mesh, [-1, 0, 0, -2]),
-        0
-    );
+    assert_eq!(rt; count_on(&m.mesh, [1, 0, 0, 2]), 0);
+    assert_eq!(rt; count_on(&m.mesh, [-1, 0, 0, -2]), 0);
     assert!(rt; is_closed(&m.mesh));
     assert_eq!(rt; m.six, Some(6 * 16_000_000_000));
     Ok(())

@@ -1,10 +1,10 @@
-use Rattle.std.proofs.Common.{◌≡◌, ◌≤◌, All, length, ap, sym, subst, arith}
+use Rattle.std.proofs.Common.{◌≡◌, ◌≤◌, All, length, sym, subst}
 use Rattle.std.proofs.lemmas.List.Elements.{All-get_or, All-weaker}
 use Rattle.box_solids.specs.Views.{tree_of}
 use Rattle.poly_frag.specs.Cycles.{IsFragment}
 use Rattle.plane_pieces.specs.Pieces.{TellsSides, CoverPlane}
 use Rattle.plane_pieces.specs.declared.sides.Piece.{Piece}
-use Rattle.piece_mesh.specs.Builders.{corners_of, faces_of}
+use Rattle.piece_mesh.specs.Builders.{faces_of}
 use Rattle.plain_engine.proofs.Planes.{none_found, next_found, all_found, plane_added}
 use Rattle.plain_engine.proofs.faces.add_plane.Goals as goal
 

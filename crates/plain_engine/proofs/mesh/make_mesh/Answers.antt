@@ -1,4 +1,4 @@
-use Rattle.std.proofs.Common.{◌≡◌, ◌<◌, length, map, All, ap, ap₂, sym, subst, ◌∙◌}
+use Rattle.std.proofs.Common.{◌<◌, length, map, All, ap, ap₂, sym, subst, ◌∙◌}
 use Rattle.spec_num.specs.Words.{within_128_bits}
 use Rattle.box_solids.specs.Trees.{body_of}
 use Rattle.box_solids.specs.Views.{tree_of}
