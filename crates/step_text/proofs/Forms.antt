@@ -1,5 +1,5 @@
 -- One more token of a part of a form.
-use Rattle.std.proofs.Common.{ℕ, ◌≡◌, zero, suc, true, List, ◌∷◌, refl, sym, ap, subst, inl, inr}
+use Rattle.std.proofs.Common.{ℕ, ◌≡◌, zero, suc, true, List, refl, sym, subst}
 use Rattle.spec_step.specs.Gaps.{IsNext}
 use Rattle.spec_step.specs.Form.{Matches, is_same}
 use Rattle.spec_step.specs.declared.token.Token.{Token}

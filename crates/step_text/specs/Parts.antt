@@ -1,5 +1,5 @@
 -- The parts of a form: texts that are nothing but tokens.
-use Rattle.std.specs.Prelude.{◌≡◌, ℕ, ◌+◌, zero, suc, Bool, true, false, List, [], ◌∷◌, length, drop, Option, Some, None, if◌then◌else◌, codes, ◌&&◌, ◌||◌, ◌==◌, not}
+use Rattle.std.specs.Prelude.{ℕ, ◌+◌, zero, suc, Bool, true, false, List, [], ◌∷◌, length, drop, Option, Some, None, if◌then◌else◌, codes, ◌&&◌, ◌||◌, ◌==◌, not}
 use Rattle.spec_step.specs.Spelling.{word}
 use Rattle.spec_step.specs.Gaps.{is_blank}
 use Rattle.spec_step.specs.declared.token.TokenKind.{TokenKind}
