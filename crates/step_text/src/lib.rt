@@ -21,6 +21,7 @@ mod rules;
 mod schema;
 mod slots;
 
+pub use bytes::bytes_at;
 pub use file::StepFile;
 pub use file_form::{Plain, plain_file};
 pub use next::next_token;

@@ -1,0 +1,9 @@
+//! The keywords of IFC4 that are read, and which of them are building elements.
+#![tactic(auto)]
+
+mod kind;
+mod table;
+#[cfg(test)]
+mod tests;
+
+pub use kind::{Kind, is_element};

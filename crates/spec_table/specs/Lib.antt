@@ -1,0 +1,3 @@
+pub mod Sections
+pub mod Opened
+pub mod Attributes

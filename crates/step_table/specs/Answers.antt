@@ -1,0 +1,16 @@
+-- The answers that lend parts of a table.
+use Rattle.std.specs.Prelude.{Option, Result, Ok, Err}
+use Rattle.std.specs.Borrow.{Bor}
+use Rattle.std.specs.Option.{option_copied}
+use Rattle.spec_table.specs.declared.fault.AttrFault.{AttrFault}
+use Rattle.spec_table.specs.Attributes.{Reading}
+
+-- what is lent, or why nothing is read
+abbrev pub lent : {T : Type 0} → Result (Bor T) AttrFault → Reading T
+lent (Ok x) = Ok x.now
+lent (Err fault) = Err fault
+
+-- the same of an attribute that may be unset
+abbrev pub lent_if_set : {T : Type 0} → Result (Option (Bor T)) AttrFault → Reading (Option T)
+lent_if_set (Ok o) = Ok (option_copied o)
+lent_if_set (Err fault) = Err fault

@@ -1,0 +1,31 @@
+ghost use Rattle.std.specs.Prelude.{◌≡◌, ◌==◌, ℕ, nat_eq, Some, None, if◌then◌else◌, IfOk, OnOk};
+ghost use Rattle.std.specs.Option.{option_or};
+ghost use Rattle.indexmap.specs.IndexMap.{get};
+ghost use Rattle.step_table.specs.Places.{place_of};
+
+use indexmap::IndexMap;
+use spec_step::Instance;
+use std::alloc::{AllocError, Global};
+
+/// Gives a number its place, if it has none.
+fn note(places: &mut IndexMap<u64, usize>, number: u64, place: usize) -> Result<(), AllocError>
+    ensures { OnOk result ((n : ℕ) → get nat_eq places.new n
+        ≡ option_or (get nat_eq places.old n) (if number == n then Some place else None)) }
+{
+    if places.get(&number).is_none() {
+        places.insert(number, place)?;
+    }
+    Ok(())
+}
+
+/// The places of instances by their numbers, counted from 0; of several instances with one number
+/// the place of the first.
+pub fn places_of(alloc: Global, instances: &[Instance]) -> Result<IndexMap<u64, usize>, AllocError>
+    ensures { IfOk result (λ places. (n : ℕ) → get nat_eq places n ≡ place_of instances.now n) }
+{
+    let mut places = IndexMap::new(alloc);
+    for (place, instance) in instances.iter().enumerate() {
+        note(&mut places, instance.number, place)?;
+    }
+    Ok(places)
+}
