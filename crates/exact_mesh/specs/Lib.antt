@@ -1,2 +1,3 @@
 pub mod Meshes
 pub mod Ranges
+pub mod Order

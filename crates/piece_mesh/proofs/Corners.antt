@@ -1,17 +1,15 @@
 -- Corners with the same numbers are one corner, and the places of corners in a growing list.
-use Rattle.std.proofs.Common.{◌≡◌, inl, inr, ℕ, zero, suc, ◌+◌, ◌*◌, ◌<◌, ◌≤◌, ◌^◌, Bool, true, false, ◌&&◌, ◌||◌, not, cond, List, [], ◌∷◌, ◌++◌, Some, length, take, slice_get, Contains, ℤ, pos, ◌<ℤ◌, unsigned_abs, get_or, arith, refl, sym, ap, subst, ◌∙◌, int_eq, append_assoc, length-append}
+use Rattle.std.proofs.Common.{◌≡◌, ℕ, zero, suc, ◌+◌, ◌*◌, ◌<◌, ◌≤◌, ◌^◌, Bool, true, false, ◌&&◌, List, [], ◌∷◌, ◌++◌, Some, length, take, slice_get, ℤ, pos, ◌<ℤ◌, unsigned_abs, get_or, refl, sym, ap, subst, ◌∙◌, int_eq, append_assoc}
 use Rattle.std.proofs.Props.{props}
-use Rattle.std.specs.Bool.{if◌then◌else◌, Decides}
-use Rattle.std.specs.List.{list_any, position_or_len, IsDistinct}
+use Rattle.std.specs.Bool.{Decides}
+use Rattle.std.specs.List.{IsDistinct}
 use mathlib.Core.HLevel.{is_prop→PathP}
-use Rattle.std.proofs.lemmas.Bool.{cases_lt}
 use Rattle.std.proofs.lemmas.Bool.Decides.{Decides-int_eq}
 use Rattle.std.proofs.lemmas.List.{take_more}
-use Rattle.std.proofs.lemmas.List.Elements.{Contains-append_left, Contains-append_right}
 use Rattle.std.proofs.lemmas.Map.Made.{AllPairs-from_IsDistinct}
 use Rattle.plane_core.specs.Numbers.{AreCoprime}
 use Rattle.plane_core.specs.declared.numbers.Corner.{Corner}
-use Rattle.piece_mesh.specs.Builders.{AreDistinct, IsGrown, AreFresh}
+use Rattle.piece_mesh.specs.Builders.{AreDistinct, IsGrown}
 use Rattle.piece_mesh.specs.Pieces.{AreAt}
 
 pub same_corner : (c d : Corner) → c.x ≡ d.x → c.y ≡ d.y → c.z ≡ d.z → c.w ≡ d.w → c ≡ d
@@ -58,28 +56,6 @@ corner_eq-Decides c d = (same_from_eq c d, λ e. subst (λ x. corner_eq c x ≡ 
 pub distinct_keys : (cs : List Corner) → IsDistinct corner_eq cs → AreDistinct cs
 distinct_keys cs h = AllPairs-from_IsDistinct corner_eq-Decides cs h
 
--- ---- one corner more
-index_last : {X : Type 0} (test : X → Bool) (xs : List X) → list_any test xs ≡ false → position_or_len test xs ≡ length xs
-index_last test [] e = refl
-index_last test (x ∷ xs) e = step (test x) (list_any test xs) (position_or_len test xs) (length xs) e (index_last test xs)
-  where
-    step : (a b : Bool) (n m : ℕ) → (a || b) ≡ false → (b ≡ false → n ≡ m) → cond (not a) (1 + n) 0 ≡ suc m
-    step true b n m e h = cc
-    step false b n m e h = let same = h e in omega arith
-
-fresh_if : (b : Bool) (test : Corner → Bool) (old new : List Corner) (c : Corner) (place : ℕ) → list_any test old ≡ b → new ≡ (if b then old else (old ++ c ∷ [])) → place ≡ position_or_len test old → AreFresh old new (place ∷ [])
-fresh_if true test old new c place known same at i below = let e = ap length same in inl (omega arith)
-fresh_if false test old new c place absent grown at i below = elim (cases_lt i (length old)) [
-  | inl old_one ↦ inl old_one
-  | inr new_one ↦ inr (0, omega arith, last i place (length old) (length new) new_one below (ap length grown ∙ length-append old (c ∷ [])) (at ∙ index_last test old absent))
-]
-  where
-    last : (i place n m : ℕ) → n ≤ i → i < m → m ≡ n + 1 → place ≡ n → place ≡ i
-    last i place n m h k e f = omega arith
-
-pub fresh_place : (old new : List Corner) (c : Corner) (place : ℕ) → new ≡ (if list_any (corner_eq c) old then old else (old ++ c ∷ [])) → place ≡ position_or_len (corner_eq c) old → AreFresh old new (place ∷ [])
-fresh_place old new c place keys at = fresh_if (list_any (corner_eq c) old) (corner_eq c) old new c place refl keys at
-
 -- ---- places in a list that has grown
 get_append : (xs ys : List Corner) (k : ℕ) (c : Corner) → slice_get xs k ≡ Some c → slice_get (xs ++ ys) k ≡ Some c
 get_append [] ys k c e = cc
@@ -106,12 +82,3 @@ at_next old new ps next around i place c below item grown at items a =
 
 pub grown_next : (old mid new : List Corner) → IsGrown old mid → IsGrown mid new → IsGrown old new
 grown_next old mid new g h = (g.0 ++ h.0, h.1 ∙ ap (λ cs. cs ++ h.0) g.1 ∙ append_assoc old g.0 h.0)
-
-pub fresh_next : (old mid new : List Corner) (ps next : List ℕ) (place : ℕ) → next ≡ ps ++ place ∷ [] → AreFresh old mid ps → AreFresh mid new (place ∷ []) → AreFresh old new next
-fresh_next old mid new ps next place items f g i below = elim (g i below) [
-  | inl there ↦ elim (f i there) [
-    | inl first ↦ inl first
-    | inr one ↦ inr (subst (λ qs. Contains qs i) (sym items) (Contains-append_left ps (place ∷ []) i one))
-  ]
-  | inr one ↦ inr (subst (λ qs. Contains qs i) (sym items) (Contains-append_right ps (place ∷ []) i one))
-]

@@ -2,6 +2,7 @@ pub mod Rows
 pub mod Along
 pub mod Rings
 pub mod Corners
+pub mod Order
 pub mod Turned
 pub mod Faces
 pub mod Scaled

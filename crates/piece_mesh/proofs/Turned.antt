@@ -16,7 +16,9 @@ use Rattle.plane_core.specs.Views.{plane_of}
 use Rattle.exact_mesh.specs.Meshes.{plane_of as numbered_plane}
 use Rattle.poly_frag.specs.Frags.{numbered, kept_side}
 use Rattle.poly_frag.specs.declared.frag.Edge.{Edge}
-use Rattle.piece_mesh.specs.Builders.{AreUsed, AreFresh}
+use Rattle.piece_mesh.specs.Builders.{AreUsed}
+use Rattle.exact_mesh.specs.Order.{NamesNext}
+use Rattle.piece_mesh.proofs.Order.{each_named}
 use Rattle.piece_mesh.specs.Pieces.{outer_side, edges_seen}
 use Rattle.piece_mesh.proofs.Rows.{map-append, map-reverse, map-rotated}
 
@@ -93,9 +95,9 @@ any_left P xs y (k, x, below, at, p) =
     let same : get_or (xs ++ y ∷ []) k x ≡ get_or xs k x = grind (arith, common_steps) in
     (k, x, omega (arith, length-append xs (y ∷ [])), same ∙ at, p)
 
-pub used_next : (old new : List Corner) (faces next : List Face) (face : Face) → next ≡ faces ++ face ∷ [] → AreFresh old new face.corners → AreUsed old faces → AreUsed new next
-used_next old new faces next face items fresh used i below =
-    subst (Any (λ f. Contains f.corners i)) (sym items) (elim (fresh i below) [
+pub used_next : (old new : List Corner) (faces next : List Face) (face : Face) → next ≡ faces ++ face ∷ [] → NamesNext (length old) face.corners (length new) → AreUsed old faces → AreUsed new next
+used_next old new faces next face items names used i below =
+    subst (Any (λ f. Contains f.corners i)) (sym items) (elim (each_named face.corners (length old) (length new) i names below) [
       | inl there ↦ any_left (λ f. Contains f.corners i) faces face (used i there)
       | inr one ↦ Any-push (λ f. Contains f.corners i) faces face one
     ])

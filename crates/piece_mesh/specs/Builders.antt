@@ -1,5 +1,5 @@
 -- What a mesh in the making holds.
-use Rattle.std.specs.Prelude.{◌≡◌, ◌≢◌, ◌<◌, ◌++◌, ◌⊎◌, ℕ, List, length, map, Any, Contains}
+use Rattle.std.specs.Prelude.{◌≡◌, ◌≢◌, ◌<◌, ◌++◌, ℕ, List, length, map, Any, Contains}
 use Rattle.std.specs.List.{AllPairs}
 use Rattle.plane_core.specs.declared.numbers.Corner.{Corner}
 use Rattle.spec_page.specs.Element.{Face}
@@ -25,7 +25,3 @@ IsGrown old new = (more : List Corner) × (new ≡ old ++ more)
 -- each corner is a corner of some face
 abbrev pub AreUsed : List Corner → List Face → Type 0
 AreUsed corners faces = (i : ℕ) → i < length corners → Any (λ f. Contains f.corners i) faces
-
--- each new corner's place is among these
-abbrev pub AreFresh : List Corner → List Corner → List ℕ → Type 0
-AreFresh old new places = (i : ℕ) → i < length new → (i < length old) ⊎ Contains places i

@@ -1,8 +1,9 @@
 ghost use Rattle.std.specs.Prelude.{◌≡◌, ◌++◌, ◌∷◌, [], Some, map, length, slice_get, IfOk, OnOk};
 ghost use Rattle.spec_page.specs.Element.{Face};
 ghost use Rattle.exact_mesh.specs.Meshes.{face_of};
+ghost use Rattle.exact_mesh.specs.Order.{NamesNext, AreInFirstUse};
 ghost use Rattle.poly_frag.specs.Cycles.{IsCycle};
-ghost use Rattle.piece_mesh.specs.Builders.{corners_of, faces_of, AreDistinct, IsGrown, AreUsed, AreFresh};
+ghost use Rattle.piece_mesh.specs.Builders.{corners_of, faces_of, AreDistinct, IsGrown, AreUsed};
 ghost use Rattle.piece_mesh.specs.Pieces.{AreAt, IsFaceOf};
 
 use crate::outward::{outward_corners, outward_edges, outward_numbers};
@@ -46,6 +47,7 @@ impl MeshBuilder {
         ensures face { OnOk result ((face : Face) × (faces_of self.new ≡ faces_of self.old ++ face ∷ []) × IsFaceOf book.now frag.now front_out (corners_of self.new) face) }
         ensures corners { OnOk result (IsGrown (corners_of self.old) (corners_of self.new)) }
         ensures distinct { OnOk result (AreDistinct (corners_of self.old) → AreDistinct (corners_of self.new)) }
+        ensures order { OnOk result (AreInFirstUse (corners_of self.old) (faces_of self.old) → AreInFirstUse (corners_of self.new) (faces_of self.new)) }
         ensures used { OnOk result (AreUsed (corners_of self.old) (faces_of self.old) → AreUsed (corners_of self.new) (faces_of self.new)) }
     {
         let plane = outward_numbers(book.plane(frag.support), front_out);
@@ -65,7 +67,7 @@ impl MeshBuilder {
     fn places(&mut self, alloc: Global, around: &[Corner]) -> Result<Vec<usize>, AllocError>
         ensures at { IfOk result (λ places. AreAt (corners_of self.new) places.items around.now) }
         ensures grown { IsGrown (corners_of self.old) (corners_of self.new) }
-        ensures fresh { IfOk result (λ places. AreFresh (corners_of self.old) (corners_of self.new) places.items) }
+        ensures next { IfOk result (λ places. NamesNext (length (corners_of self.old)) places.items (length (corners_of self.new))) }
         ensures distinct { OnOk result (AreDistinct (corners_of self.old) → AreDistinct (corners_of self.new)) }
         ensures faces { self.new.faces ≡ self.old.faces }
     {
@@ -80,7 +82,7 @@ impl MeshBuilder {
     fn place(&mut self, corner: Corner) -> Result<usize, AllocError>
         ensures at { IfOk result (λ place. slice_get (corners_of self.new) place ≡ Some corner) }
         ensures grown { IsGrown (corners_of self.old) (corners_of self.new) }
-        ensures fresh { IfOk result (λ place. AreFresh (corners_of self.old) (corners_of self.new) (place ∷ [])) }
+        ensures next { IfOk result (λ place. NamesNext (length (corners_of self.old)) (place ∷ []) (length (corners_of self.new))) }
         ensures distinct { OnOk result (AreDistinct (corners_of self.new)) }
         ensures faces { self.new.faces ≡ self.old.faces }
     {

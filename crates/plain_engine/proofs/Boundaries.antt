@@ -22,6 +22,7 @@ use Rattle.plane_pieces.proofs.Held.{same_flag, inside_from_held, held_from_insi
 use Rattle.box_solids.specs.Trees.{Tree, body_of, told_by, is_in_front_across}
 use Rattle.box_solids.specs.Books.{ArePlanesOf}
 use Rattle.box_solids.proofs.Neighbours.{neighbour_in_front, neighbour_behind}
+use Rattle.exact_mesh.specs.Order.{AreInFirstUse}
 use Rattle.piece_mesh.specs.Builders.{AreDistinct, AreUsed, IsGrown}
 use Rattle.piece_mesh.specs.Pieces.{IsFaceOf}
 use Rattle.piece_mesh.proofs.Rows.{map-append}
@@ -145,12 +146,13 @@ piece_face_kept planes old new grown face is = record {
 }
 
 pub part_next : (planes : List BookPlane) (f : Frag) (behind : Bool) → IsFragment planes f → 6 ≤ f.support.k → (old_corners new_corners : List Corner) (old new : List Face) (face : Face) → IsGrown old_corners new_corners → new ≡ old ++ face ∷ [] → IsFaceOf planes f behind new_corners face
-    → (AreDistinct old_corners → AreDistinct new_corners) → (AreUsed old_corners old → AreUsed new_corners new)
+    → (AreDistinct old_corners → AreDistinct new_corners) → (AreUsed old_corners old → AreUsed new_corners new) → (AreInFirstUse old_corners old → AreInFirstUse new_corners new)
     → IsPartMesh planes old_corners old → IsPartMesh planes new_corners new
-part_next planes f behind fragment own old_corners new_corners old new face grown more is_face distinct used part = record {
+part_next planes f behind fragment own old_corners new_corners old new face grown more is_face distinct used order part = record {
   pieces = subst (All (IsPieceFace planes new_corners)) (sym more) (All-push (IsPieceFace planes new_corners) old face
       (All-weaker (IsPieceFace planes old_corners) (IsPieceFace planes new_corners) (piece_face_kept planes old_corners new_corners grown) old part.pieces)
       (record { frag = f; front_out = behind; fragment = fragment; no_wall = own; is_face = is_face }));
   distinct = distinct part.distinct;
   used = used part.used;
+  order = order part.order;
 }

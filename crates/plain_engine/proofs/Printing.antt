@@ -30,6 +30,7 @@ use Rattle.exact_mesh.specs.Meshes.{face_of, vector_of, vector_at, mesh_volume}
 use Rattle.exact_mesh.specs.Ranges.{IsWithin, AreNear}
 use Rattle.exact_mesh.specs.declared.mesh.MeshFace.{MeshFace}
 use Rattle.exact_mesh.proofs.Prints.{printed_volume_is}
+use Rattle.exact_mesh.specs.Order.{AreInFirstUse}
 use Rattle.piece_mesh.specs.Builders.{AreDistinct}
 use Rattle.piece_mesh.specs.Pieces.{AreAt, AreFacesOf, Piece as DrawnPiece}
 use Rattle.piece_mesh.specs.Sizes.{IsWithinReach}
@@ -48,6 +49,7 @@ no_part planes corners faces no_corners no_faces = record {
   pieces = subst (All (IsPieceFace planes corners)) (sym no_faces) (All-nil (IsPieceFace planes corners));
   distinct = subst AreDistinct (sym no_corners) (λ i j d h k. absurd (omega arith));
   used = λ i below. absurd (none i (length corners) (ap length no_corners) below);
+  order = subst (λ cs. AreInFirstUse cs faces) (sym no_corners) (subst (AreInFirstUse []) (sym no_faces) refl);
 }
   where
     none : (i n : ℕ) → n ≡ 0 → i < n → ⊥

@@ -15,6 +15,7 @@ use Rattle.poly_frag.specs.declared.frag.Frag.{Frag}
 use Rattle.plane_pieces.specs.Points.{holds}
 use Rattle.plane_pieces.specs.declared.sides.Piece.{Piece}
 use Rattle.exact_mesh.specs.Meshes.{face_of}
+use Rattle.exact_mesh.specs.Order.{AreInFirstUse}
 use Rattle.exact_mesh.specs.declared.mesh.ExactMesh.{ExactMesh}
 use Rattle.piece_mesh.specs.Builders.{AreDistinct, AreUsed}
 use Rattle.piece_mesh.specs.Pieces.{IsFaceOf}
@@ -32,6 +33,7 @@ pub record IsPartMesh (planes : List BookPlane) (corners : List Corner) (faces :
   pub pieces : All (IsPieceFace planes corners) faces
   pub distinct : AreDistinct corners
   pub used : AreUsed corners faces
+  pub order : AreInFirstUse corners faces
 
 -- the planes of the faces on which a point lies
 abbrev pub planes_at : List Face → Point → List Plane

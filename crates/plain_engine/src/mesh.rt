@@ -1,5 +1,7 @@
-ghost use Rattle.std.specs.Prelude.{IfOk};
+ghost use Rattle.std.specs.Prelude.{map, IfOk};
 ghost use Rattle.spec_headline.specs.Headline.{IsPrintOf};
+ghost use Rattle.exact_mesh.specs.Meshes.{face_of};
+ghost use Rattle.exact_mesh.specs.Order.{AreInFirstUse};
 ghost use Rattle.box_solids.specs.Trees.{body_of};
 ghost use Rattle.box_solids.specs.Views.{tree_of};
 ghost use Rattle.plain_engine.specs.Prints.{element_of};
@@ -26,6 +28,7 @@ pub struct PrintedMesh {
 /// of their first use, each once (rules of this project). The error is want of memory.
 pub fn make_mesh(alloc: Global, solid: &BoxSolid) -> Result<PrintedMesh, AllocError>
     ensures print { IfOk result (λ m. IsPrintOf (body_of (tree_of solid.now)) 1000 (element_of m)) }
+    ensures order { IfOk result (λ m. AreInFirstUse m.mesh.corners.items (map face_of m.mesh.faces.items)) }
 {
     let book = plane_book(alloc, solid)?;
     let mesh = exact(alloc, &book, solid)?;

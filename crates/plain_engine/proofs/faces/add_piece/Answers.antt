@@ -32,7 +32,7 @@ returns-in_ok-add_face-clause-mesh c =
     let m = c.in_ok-meanings.meanings in
     let added = c.in_ok-add_face.ensures in
     part_next c.args.book.now c.args.piece.now.frag m.behind c.requires.fragment c.requires.own (corners_of c.args.builder.now) (corners_of c.add_face.new.self) (faces_of c.args.builder.now) (faces_of c.add_face.new.self)
-    added.face.0 added.corners added.face.1 added.face.2 added.distinct added.used
+    added.face.0 added.corners added.face.1 added.face.2 added.distinct added.used added.order
 
 pub returns-in_ok-add_face-clause-boundary : goal.returns-in_ok-add_face-clause-boundary
 returns-in_ok-add_face-clause-boundary c =

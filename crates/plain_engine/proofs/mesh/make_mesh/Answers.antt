@@ -27,11 +27,12 @@ sixfold-six-requires c =
       near = subst AreNear (sym c.deref-2.ensures.value) (are_near m.corners.items vs printed reach);
     }
 
-pub returns : goal.returns
-returns c =
+pub returns-clause-print : goal.returns-clause-print
+returns-clause-print c =
     let m : PrintedMesh = record { mesh = c.in_ok-mesh.mesh; printed = c.in_ok-printed.printed; six = c.sixfold-six.result } in
-    record {
-      print = print_of c.in_ok-book.book (body_of (tree_of c.args.solid.now)) c.in_ok-book.ensures.planes m c.in_ok-mesh.ensures
-          (c.in_ok-printed.ensures ∙ ap (map image) c.deref.ensures.value)
-          (c.sixfold-six.ensures ∙ ap₂ (λ vs fs. within_128_bits (mesh_volume vs fs)) c.deref-2.ensures.value c.deref-3.ensures.value);
-    }
+    print_of c.in_ok-book.book (body_of (tree_of c.args.solid.now)) c.in_ok-book.ensures.planes m c.in_ok-mesh.ensures
+    (c.in_ok-printed.ensures ∙ ap (map image) c.deref.ensures.value)
+    (c.sixfold-six.ensures ∙ ap₂ (λ vs fs. within_128_bits (mesh_volume vs fs)) c.deref-2.ensures.value c.deref-3.ensures.value)
+
+pub returns-clause-order : goal.returns-clause-order
+returns-clause-order c = c.in_ok-mesh.ensures.part.order

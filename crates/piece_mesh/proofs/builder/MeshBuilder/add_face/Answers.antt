@@ -5,6 +5,7 @@ use Rattle.poly_frag.specs.Frags.{numbered, kept_side}
 use Rattle.piece_mesh.specs.Builders.{corners_of, faces_of}
 use Rattle.piece_mesh.specs.Pieces.{AreAt}
 use Rattle.piece_mesh.proofs.Rows.{map-append}
+use Rattle.piece_mesh.proofs.Order.{order_next}
 use Rattle.piece_mesh.proofs.Turned.{used_next}
 use Rattle.piece_mesh.proofs.builder.MeshBuilder.add_face.Goals as goal
 
@@ -31,7 +32,14 @@ returns-clause-used c =
     let face : MeshFace = record { plane = c.outward_numbers-plane.result; edges = c.in_ok-edges.edges; corners = c.in_ok-corners.corners } in
     used_next (corners_of c.args.self.now) (corners_of c.places.new.self) (faces_of c.args.self.now) (map face_of c.push.new.self.items) (face_of face)
     (one_more c.args.self.now.faces.items c.places.new.self.faces.items c.push.new.self.items face (ap (λ v. v.items) c.in_ok-corners.ensures.faces) c.in_ok-push.ensures.items)
-    c.in_ok-corners.ensures.fresh
+    c.in_ok-corners.ensures.next
+
+pub returns-clause-order : goal.returns-clause-order
+returns-clause-order c =
+    let face : MeshFace = record { plane = c.outward_numbers-plane.result; edges = c.in_ok-edges.edges; corners = c.in_ok-corners.corners } in
+    order_next (corners_of c.args.self.now) (corners_of c.places.new.self) (faces_of c.args.self.now) (map face_of c.push.new.self.items) (face_of face)
+    (one_more c.args.self.now.faces.items c.places.new.self.faces.items c.push.new.self.items face (ap (λ v. v.items) c.in_ok-corners.ensures.faces) c.in_ok-push.ensures.items)
+    c.in_ok-corners.ensures.next
 
 pub returns-clause-distinct : goal.returns-clause-distinct
 returns-clause-distinct c = c.in_ok-corners.ensures.distinct

@@ -1,12 +1,13 @@
 use Rattle.std.proofs.Common.{Some, ap, sym, ◌∙◌}
-use Rattle.piece_mesh.proofs.Corners.{same_from_eq, distinct_keys, fresh_place}
+use Rattle.piece_mesh.proofs.Corners.{corner_eq, same_from_eq, distinct_keys}
+use Rattle.piece_mesh.proofs.Order.{next_place}
 use Rattle.piece_mesh.proofs.builder.MeshBuilder.place.Goals as goal
 
 pub returns-clause-at : goal.returns-clause-at
 returns-clause-at c = let s = c.in_ok-place.ensures.stored in s.1 ∙ ap Some (sym (same_from_eq c.args.corner s.0 s.2))
 
-pub returns-clause-fresh : goal.returns-clause-fresh
-returns-clause-fresh c = fresh_place c.args.self.now.corners.keys c.insert_full.new.self.keys c.args.corner c.in_ok-place.place c.in_ok-place.ensures.keys c.in_ok-place.ensures.index
+pub returns-clause-next : goal.returns-clause-next
+returns-clause-next c = next_place (corner_eq c.args.corner) c.args.self.now.corners.keys c.insert_full.new.self.keys c.args.corner c.in_ok-place.place c.in_ok-place.ensures.keys c.in_ok-place.ensures.index
 
 pub returns-clause-distinct : goal.returns-clause-distinct
 returns-clause-distinct c = distinct_keys c.insert_full.new.self.keys c.in_ok-place.ensures.unique

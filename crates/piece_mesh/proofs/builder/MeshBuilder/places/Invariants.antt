@@ -1,5 +1,6 @@
-use Rattle.std.proofs.Common.{◌≡◌, take}
-use Rattle.piece_mesh.specs.Builders.{corners_of, AreDistinct, IsGrown, AreFresh}
+use Rattle.std.proofs.Common.{◌≡◌, length, take}
+use Rattle.piece_mesh.specs.Builders.{corners_of, AreDistinct, IsGrown}
+use Rattle.exact_mesh.specs.Order.{NamesNext}
 use Rattle.piece_mesh.specs.Pieces.{AreAt}
 use Rattle.piece_mesh.proofs.builder.MeshBuilder.places.Given as goal
 
@@ -7,7 +8,7 @@ abbrev pub invariant-loop-corner : goal.invariant-loop-corner
 invariant-loop-corner l = record {
   at : AreAt (corners_of l.self) l.places.items (take l.corner-index l.around);
   grown : IsGrown (corners_of l.fn.self) (corners_of l.self);
-  fresh : AreFresh (corners_of l.fn.self) (corners_of l.self) l.places.items;
+  next : NamesNext (length (corners_of l.fn.self)) l.places.items (length (corners_of l.self));
   distinct : AreDistinct (corners_of l.fn.self) → AreDistinct (corners_of l.self);
   faces : l.self.faces ≡ l.fn.self.faces;
 }
