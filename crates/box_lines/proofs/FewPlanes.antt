@@ -4,7 +4,7 @@ use Rattle.std.proofs.lemmas.List.{length-append}
 use Rattle.spec_space.specs.declared.Plane.{Plane}
 use Rattle.spec_solid.specs.Extrusions.{plus}
 use Rattle.spec_run.specs.Boxes.{on_grid, origin}
-use Rattle.box_mesh.specs.declared.bounds.Bounds.{Bounds}
+use Rattle.grid_boxes.specs.declared.bounds.Bounds.{Bounds}
 use Rattle.box_solids.specs.declared.solids.BoxSolid.{BoxSolid}
 use Rattle.box_solids.specs.Trees.{Leaf, has_walls, six_walls, diagonal, planes_of}
 use Rattle.box_solids.specs.Views.{tree_of}

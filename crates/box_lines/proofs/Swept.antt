@@ -6,7 +6,7 @@ use Rattle.spec_space.specs.declared.Vector.{Vector}
 use Rattle.spec_solid.specs.Solids.{Solid, Shell}
 use Rattle.spec_solid.specs.Extrusions.{plus, face_triangles}
 use Rattle.spec_run.specs.Boxes.{steps, on_grid, origin, lower, rectangle, swept, prism, block}
-use Rattle.box_mesh.specs.Boxes.{place, quadrilateral, box_faces}
+use Rattle.grid_boxes.specs.Boxes.{place, quadrilateral, box_faces}
 
 nothing_added : (a : ℤ) → a +ℤ pos 0 ≡ a
 nothing_added a = omega (arith, ints)

@@ -6,7 +6,7 @@ ghost use Rattle.spec_step.specs.Sound.{bytes_in, IsCoordinate};
 ghost use Rattle.spec_run.specs.Walls.{length_at};
 ghost use Rattle.box_lines.specs.Sizes.{IsSmall, AreSizes};
 
-use box_mesh::Bounds;
+use grid_boxes::Bounds;
 use ix_num::{Decimal, round_div};
 use spec_space::Vector;
 use spec_step::Span;

@@ -11,8 +11,8 @@ ghost use Rattle.box_lines.specs.Counts.{boxes_at};
 
 use crate::lengths::{bounds, length_at, lower_end};
 use crate::places::{ORIGIN, extents_at, lengths_at, line_at, place_at};
-use box_mesh::Bounds;
 use box_solids::{BoxSolid, Operator};
+use grid_boxes::Bounds;
 use spec_space::Vector;
 use spec_step::{PlainLine, Span};
 use sqlite_items::Boxed;

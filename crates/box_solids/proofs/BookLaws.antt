@@ -18,8 +18,8 @@ use Rattle.plane_core.specs.Planes.{IsReductionOf}
 use Rattle.plane_core.specs.Views.{plane_of}
 use Rattle.plane_core.specs.declared.numbers.Plane.{Plane as BookPlane}
 use Rattle.plane_core.proofs.Laws.{reduced_is_reduced}
-use Rattle.box_mesh.specs.Ranges.{AreSteps}
-use Rattle.box_mesh.proofs.Sides.{value_x, value_y, value_z}
+use Rattle.grid_boxes.specs.Ranges.{AreSteps}
+use Rattle.grid_boxes.proofs.Sides.{value_x, value_y, value_z}
 use Rattle.box_solids.specs.Trees.{Tree, Leaf, Joined, body_of, has_walls, six_walls, diagonal, walls_of, planes_of, told_by, is_in_front}
 use Rattle.box_solids.specs.Books.{ArePlanesOf, HasAdded, HasNumber, HasWalls, AreSidesOf}
 use Rattle.box_solids.proofs.Listed.{planes_of_body, book_planes_of_body}

@@ -1,6 +1,6 @@
 -- The tree of a solid, by its variants.
 use Rattle.std.proofs.Common.{◌≡◌, ap, ap₂, sym, ◌∙◌}
-use Rattle.box_mesh.specs.declared.bounds.Bounds.{Bounds}
+use Rattle.grid_boxes.specs.declared.bounds.Bounds.{Bounds}
 use Rattle.box_solids.specs.declared.solids.Operator.{Operator}
 use Rattle.box_solids.specs.declared.solids.BoxSolid.{BoxSolid}
 use Rattle.box_solids.specs.declared.solids.BoxSolid.TheVariants.{Box, Combined, rolls-Box, rolls-Combined}

@@ -8,11 +8,11 @@ use Rattle.spec_space.specs.declared.Vector.{Vector}
 use Rattle.spec_solid.specs.Triangles.{Triangle}
 use Rattle.spec_solid.specs.Planes.{plane_through, upright_plane, triangle_planes}
 use Rattle.spec_solid.specs.Extrusions.{face_triangles}
-use Rattle.box_mesh.specs.Boxes.{place, quadrilateral, box_faces}
+use Rattle.grid_boxes.specs.Boxes.{place, quadrilateral, box_faces}
 use Rattle.integer_laws.proofs.Products.{zero_left, zero_right, zero_difference, same_difference, first_second, second_first}
 use Rattle.integer_laws.proofs.Signs.{mul_positive}
-use Rattle.box_mesh.proofs.Members.{triangle_of, own_planes, has_own, none_upright, no_others, four_triangles, first_upright, last_upright}
-use Rattle.box_mesh.proofs.Planes.{IsManyX, IsManyY, IsManyZ, through_level, upright_along_x, upright_along_y}
+use Rattle.grid_boxes.proofs.Members.{triangle_of, own_planes, has_own, none_upright, no_others, four_triangles, first_upright, last_upright}
+use Rattle.grid_boxes.proofs.Planes.{IsManyX, IsManyY, IsManyZ, through_level, upright_along_x, upright_along_y}
 
 -- the triangles of the box between two places
 abbrev pub grid_triangles : Vector → Vector → List Triangle

@@ -14,9 +14,9 @@ use Rattle.plane_core.specs.Views.{plane_of}
 use Rattle.plane_core.specs.declared.numbers.Plane.{Plane as BookPlane}
 use Rattle.plane_core.proofs.Laws.{reduced_is_reduced}
 use Rattle.integer_laws.proofs.Ring.{var, neg, ◌⊗◌, ◌⊖◌, ring}
-use Rattle.box_mesh.specs.declared.bounds.Bounds.{Bounds}
-use Rattle.box_mesh.proofs.Orders.{from_test_false}
-use Rattle.box_mesh.proofs.Planes.{IsManyX, IsManyY, IsManyZ, IsReducedOf, reduce_x, reduce_y, reduce_z}
+use Rattle.grid_boxes.specs.declared.bounds.Bounds.{Bounds}
+use Rattle.grid_boxes.proofs.Orders.{from_test_false}
+use Rattle.grid_boxes.proofs.Planes.{IsManyX, IsManyY, IsManyZ, IsReducedOf, reduce_x, reduce_y, reduce_z}
 use Rattle.box_solids.specs.Trees.{Tree, Leaf, Joined, solid_of, body_of, has_walls, six_walls, diagonal, planes_of, IsListed}
 use Rattle.box_solids.proofs.Grid.{grid_triangles, OfPlanes, each_grid_plane, no_grid_plane, IsGridPlane, left_plane, right_plane, front_plane, back_plane, bottom_plane, top_plane, diagonal_plane}
 

@@ -9,12 +9,11 @@ use Rattle.spec_space.specs.declared.Point.{Point}
 use Rattle.spec_space.specs.Points.{IsPoint, value}
 use Rattle.spec_solid.specs.Solids.{truth, is_inside, is_meant}
 use Rattle.plane_core.specs.Books.{x_plane, y_plane, z_plane}
-use Rattle.box_mesh.specs.Boxes.{is_between, is_in_box}
-use Rattle.box_mesh.specs.declared.bounds.Bounds.{Bounds}
-use Rattle.box_mesh.proofs.Inside.{box_meaning}
-use Rattle.box_mesh.proofs.Orders.{test_true, test_false}
-use Rattle.box_mesh.proofs.Neighbours.{le_true, le_false, nothing_between}
-use Rattle.box_mesh.proofs.Sides.{value_x, value_y, value_z}
+use Rattle.grid_boxes.specs.Boxes.{is_between, is_in_box}
+use Rattle.grid_boxes.specs.declared.bounds.Bounds.{Bounds}
+use Rattle.grid_boxes.proofs.Inside.{box_meaning}
+use Rattle.grid_boxes.proofs.Orders.{test_true, test_false, le_true, le_false, nothing_between}
+use Rattle.grid_boxes.proofs.Sides.{value_x, value_y, value_z}
 use Rattle.box_solids.specs.Trees.{Tree, Leaf, Joined, solid_of, body_of, has_walls, six_walls, walls_of, is_between_walls, told_by, is_in_front}
 use Rattle.box_solids.proofs.Listed.{is_flat}
 

@@ -13,7 +13,7 @@ use Rattle.plane_core.specs.Views.{plane_of}
 use Rattle.plane_core.specs.declared.numbers.Plane.{Plane as BookPlane}
 use Rattle.integer_laws.proofs.Ring.{Expr, var, ◌⊕◌, ◌⊗◌, ◌⊖◌, ring}
 use Rattle.integer_laws.proofs.Signs.{mul_positive}
-use Rattle.box_mesh.proofs.Orders.{test_true, test_false}
+use Rattle.grid_boxes.proofs.Orders.{test_true, test_false}
 use Rattle.box_solids.specs.Trees.{Tree, body_of, walls_of, told_by, is_in_front, is_plane, is_in_front_across}
 use Rattle.box_solids.proofs.Meaning.{Tells, told_at}
 use Rattle.box_solids.proofs.WallPlanes.{IsWall, across_x, across_y, across_z, is_wall, wall_is_plane}

@@ -11,9 +11,9 @@ use Rattle.plane_core.specs.Books.{x_plane, y_plane, z_plane}
 use Rattle.plane_core.specs.Views.{plane_of}
 use Rattle.plane_core.specs.declared.numbers.Plane.{Plane as BookPlane}
 use Rattle.integer_laws.proofs.Signs.{scaled_le}
-use Rattle.box_mesh.specs.declared.bounds.Bounds.{Bounds}
-use Rattle.box_mesh.proofs.Orders.{test_true, test_false}
-use Rattle.box_mesh.proofs.Sides.{value_x, value_y, value_z}
+use Rattle.grid_boxes.specs.declared.bounds.Bounds.{Bounds}
+use Rattle.grid_boxes.proofs.Orders.{test_true, test_false}
+use Rattle.grid_boxes.proofs.Sides.{value_x, value_y, value_z}
 use Rattle.box_solids.specs.Trees.{Tree, Leaf, Joined, body_of, has_walls, is_between_walls, told_by, is_in_front, is_plane, is_in_front_across}
 use Rattle.box_solids.specs.Far.{IsFar, far_left, far_right, far_front, far_back, far_down, far_up}
 use Rattle.box_solids.proofs.Neighbours.{same_from_test, neighbour_in_front, neighbour_behind}

@@ -6,7 +6,7 @@ use Rattle.spec_space.specs.declared.Plane.{Plane}
 use Rattle.plane_core.specs.Books.{x_plane, y_plane, z_plane}
 use Rattle.plane_core.specs.Views.{plane_of}
 use Rattle.plane_core.specs.declared.numbers.Plane.{Plane as BookPlane}
-use Rattle.box_mesh.specs.declared.bounds.Bounds.{Bounds}
+use Rattle.grid_boxes.specs.declared.bounds.Bounds.{Bounds}
 use Rattle.box_solids.specs.Trees.{Leaf, has_walls, six_walls, is_plane}
 use Rattle.box_solids.specs.Books.{HasNumber, HasWalls}
 use Rattle.box_solids.proofs.Neighbours.{same_from_test, other_from_test}

@@ -11,8 +11,8 @@ use Rattle.integer_laws.proofs.Sizes.{size_sub, size_mul}
 use Rattle.integer_laws.proofs.Products.{size_zero}
 use Rattle.plane_core.specs.Books.{x_plane, y_plane, z_plane}
 use Rattle.plane_core.specs.Numbers.{IsGcdOfFour, IsSmallOver}
-use Rattle.box_mesh.specs.Ranges.{AreSteps}
-use Rattle.box_mesh.specs.declared.bounds.Bounds.{Bounds}
+use Rattle.grid_boxes.specs.Ranges.{AreSteps}
+use Rattle.grid_boxes.specs.declared.bounds.Bounds.{Bounds}
 use Rattle.box_solids.specs.Trees.{has_walls, six_walls, diagonal}
 use Rattle.box_solids.specs.Books.{IsSmallPlane}
 use Rattle.box_solids.proofs.Listed.{has_extents}

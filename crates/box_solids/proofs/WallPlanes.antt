@@ -9,7 +9,7 @@ use Rattle.spec_solid.specs.Planes.{IsReduced, IsPlaneOf}
 use Rattle.plane_core.specs.Books.{x_plane, y_plane, z_plane}
 use Rattle.integer_laws.proofs.Ring.{*ℤ_comm}
 use Rattle.integer_laws.proofs.Products.{zero_left, zero_right, size_factor, size_positive}
-use Rattle.box_mesh.specs.declared.bounds.Bounds.{Bounds}
+use Rattle.grid_boxes.specs.declared.bounds.Bounds.{Bounds}
 use Rattle.box_solids.specs.Trees.{Tree, Leaf, Joined, body_of, has_walls, six_walls, diagonal, walls_of, planes_of}
 use Rattle.box_solids.proofs.Listed.{planes_of_body, listed_itself}
 

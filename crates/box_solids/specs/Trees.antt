@@ -9,8 +9,8 @@ use Rattle.spec_solid.specs.Solids.{Operator, Solid, Shell, Combined, Body, trut
 use Rattle.spec_solid.specs.Extrusions.{face_triangles}
 use Rattle.spec_solid.specs.Planes.{upright_plane, IsTimes}
 use Rattle.plane_core.specs.Books.{x_plane, y_plane, z_plane}
-use Rattle.box_mesh.specs.Boxes.{box_faces}
-use Rattle.box_mesh.specs.declared.bounds.Bounds.{Bounds}
+use Rattle.grid_boxes.specs.Boxes.{box_faces}
+use Rattle.grid_boxes.specs.declared.bounds.Bounds.{Bounds}
 
 -- a box, or two trees and an operator that combines them
 pub data Tree : Type 0 where

@@ -6,7 +6,7 @@ ghost use Rattle.box_solids.specs.Books.{ArePlanesOf, IsKept, HasAdded, IsSmallP
 
 use crate::solids::BoxSolid;
 use crate::walls::{box_planes, has_walls};
-use box_mesh::Bounds;
+use grid_boxes::Bounds;
 use plane_core::PlaneBook;
 use spec_space::Plane;
 use std::alloc::{AllocError, Global};

@@ -12,7 +12,7 @@ ghost use Rattle.box_solids.specs.Books.{HasNumber, HasWalls, AreFlagsOf, AreSid
 
 use crate::solids::{BoxSolid, Operator};
 use crate::walls::{has_walls, x_plane, y_plane, z_plane};
-use box_mesh::Bounds;
+use grid_boxes::Bounds;
 use plane_core::{PlaneBook, PlaneId};
 use spec_space::Plane;
 

@@ -1,4 +1,4 @@
-use box_mesh::Bounds;
+use grid_boxes::Bounds;
 use sqlite_items::Boxed;
 
 /// The Boolean operators of IFC4 (IfcBooleanResult) that make solids of boxes.

@@ -1,5 +1,5 @@
 use crate::{BoxSolid, Operator, plane_book, told};
-use box_mesh::Bounds;
+use grid_boxes::Bounds;
 use plane_core::PlaneId;
 use spec_space::Vector;
 use sqlite_items::Boxed;

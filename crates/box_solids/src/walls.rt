@@ -1,10 +1,10 @@
 ghost use Rattle.std.specs.Prelude.{◌≡◌, ◌^◌, ◌≤◌, ◌-ℤ◌, ◌*ℤ◌, ◌∷◌, [], ◌++◌, unsigned_abs};
 ghost use Rattle.plane_core.specs.Books.{x_plane, y_plane, z_plane};
 ghost use Rattle.spec_solid.specs.Planes.{upright_plane};
-ghost use Rattle.box_mesh.specs.Ranges.{AreSteps};
+ghost use Rattle.grid_boxes.specs.Ranges.{AreSteps};
 ghost use Rattle.box_solids.specs.Trees.{has_walls, six_walls, diagonal};
 
-use box_mesh::Bounds;
+use grid_boxes::Bounds;
 use spec_space::{Plane, Vector};
 
 /// The plane `x = d`.

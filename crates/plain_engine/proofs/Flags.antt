@@ -10,7 +10,7 @@ use Rattle.spec_space.specs.Points.{IsPoint, value}
 use Rattle.plane_core.specs.declared.numbers.Plane.{Plane as BookPlane}
 use Rattle.plane_core.specs.Views.{plane_of}
 use Rattle.poly_frag.specs.Frags.{numbered, support_of, IsInside}
-use Rattle.box_mesh.proofs.Orders.{test_true, test_false}
+use Rattle.grid_boxes.proofs.Orders.{test_true, test_false}
 use Rattle.box_solids.specs.Trees.{is_in_front, is_plane, is_in_front_across}
 use Rattle.box_solids.specs.Books.{AreFlagsOf}
 use Rattle.box_solids.proofs.Neighbours.{same_from_test, test_itself}

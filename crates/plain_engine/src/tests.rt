@@ -1,7 +1,7 @@
 use crate::{PrintedMesh, make_mesh};
-use box_mesh::Bounds;
 use box_solids::{BoxSolid, Operator};
 use exact_mesh::{ExactMesh, edge_count};
+use grid_boxes::Bounds;
 use spec_space::Vector;
 use sqlite_items::Boxed;
 use std::alloc::{AllocError, Global};

@@ -1,54 +1,18 @@
--- The planes of a shell of triangles, one triangle at a time.
-use Rattle.std.proofs.Common.{◌≡◌, pos, ◌-ℤ◌, unsigned_abs, Bool, true, false, List, [], ◌∷◌, ◌++◌, refl, ap, sym, subst, eqb→eq, T}
+-- The planes of one triangle, and the triangles of a face.
+use Rattle.std.proofs.Common.{◌≡◌, pos, ◌-ℤ◌, unsigned_abs, Bool, true, false, List, [], ◌∷◌, refl, ap, sym, subst, eqb→eq, T}
 use Rattle.std.specs.Prelude.{◌≢◌, ◌==◌, if◌then◌else◌}
-use Rattle.std.specs.List.{flat_map, All, Contains}
-use Rattle.std.proofs.lemmas.List.Elements.{All-nil, All-cons, All-same, All-append, All-head, All-tail, All-weaker, All-contains, Contains-append_left, Contains-append_right}
+use Rattle.std.specs.List.{All, Contains}
+use Rattle.std.proofs.lemmas.List.Elements.{All-nil, All-cons, All-same}
 use Rattle.spec_space.specs.declared.Plane.{Plane}
 use Rattle.spec_space.specs.declared.Vector.{Vector}
 use Rattle.spec_solid.specs.Triangles.{Triangle, turn}
-use Rattle.spec_solid.specs.Solids.{Body, Shell}
-use Rattle.spec_solid.specs.Planes.{plane_through, upright_plane, triangle_planes, body_planes}
+use Rattle.spec_solid.specs.Planes.{plane_through, upright_plane, triangle_planes}
 use Rattle.spec_solid.specs.Extrusions.{face_triangles}
-use Rattle.box_mesh.specs.Boxes.{quadrilateral}
+use Rattle.grid_boxes.specs.Boxes.{quadrilateral}
 use Rattle.integer_laws.proofs.Products.{size_zero, first_first, second_second}
-
-abbrev pub shell_body : List Triangle → Body
-shell_body ts = record { items = Shell ts ∷ []; openings = [] }
 
 abbrev pub triangle_of : Vector → Vector → Vector → Triangle
 triangle_of u v s = record { a = u; b = v; c = s }
-
--- ---- from the triangles to the planes
-each_plane : (P : Plane → Type 0) (ts : List Triangle) → All (λ t. All P (triangle_planes t)) ts → All P (flat_map triangle_planes ts)
-each_plane P [] h = All-nil P
-each_plane P (t ∷ ts) h =
-    All-append P (triangle_planes t) (flat_map triangle_planes ts)
-    (All-head (λ t. All P (triangle_planes t)) t ts h)
-    (each_plane P ts (All-tail (λ t. All P (triangle_planes t)) t ts h))
-
-pub each_of_shell : (P : Plane → Type 0) (ts : List Triangle) → All (λ t. All P (triangle_planes t)) ts → All P (body_planes (shell_body ts))
-each_of_shell P ts h =
-    All-append P (flat_map triangle_planes ts ++ []) []
-    (All-append P (flat_map triangle_planes ts) [] (each_plane P ts h) (All-nil P))
-    (All-nil P)
-
--- ---- from a plane of a triangle to a plane of the shell
-among_each : (ts : List Triangle) → All (λ t. (k : Plane) → Contains (triangle_planes t) k → Contains (flat_map triangle_planes ts) k) ts
-among_each [] = All-nil (λ t. (k : Plane) → Contains (triangle_planes t) k → Contains (flat_map triangle_planes []) k)
-among_each (t ∷ ts) =
-    All-cons (λ t'. (k : Plane) → Contains (triangle_planes t') k → Contains (triangle_planes t ++ flat_map triangle_planes ts) k) t ts
-    (λ k c. Contains-append_left (triangle_planes t) (flat_map triangle_planes ts) k c)
-    (All-weaker
-    (λ t'. (k : Plane) → Contains (triangle_planes t') k → Contains (flat_map triangle_planes ts) k)
-    (λ t'. (k : Plane) → Contains (triangle_planes t') k → Contains (triangle_planes t ++ flat_map triangle_planes ts) k)
-    (λ t' h k c. Contains-append_right (triangle_planes t) (flat_map triangle_planes ts) k (h k c))
-    ts (among_each ts))
-
-pub plane_of_shell : (ts : List Triangle) (t : Triangle) (k : Plane) → Contains ts t → Contains (triangle_planes t) k → Contains (body_planes (shell_body ts)) k
-plane_of_shell ts t k m c =
-    Contains-append_left (flat_map triangle_planes ts ++ []) [] k
-    (Contains-append_left (flat_map triangle_planes ts) [] k
-    (All-contains (λ t. (k : Plane) → Contains (triangle_planes t) k → Contains (flat_map triangle_planes ts) k) ts t (among_each ts) m k c))
 
 -- ---- the planes of one triangle
 abbrev pub own_planes : Triangle → List Plane

@@ -5,10 +5,10 @@ use Rattle.spec_space.specs.declared.Point.{Point}
 use Rattle.spec_space.specs.declared.Vector.{Vector}
 use Rattle.spec_space.specs.Points.{IsPoint, dot, way}
 use Rattle.spec_solid.specs.Triangles.{Triangle, differ, is_low, rises_above, passes_above, turn, is_pierced}
-use Rattle.box_mesh.specs.Boxes.{place}
+use Rattle.grid_boxes.specs.Boxes.{place}
 use Rattle.integer_laws.proofs.Ring.{var, con, ◌⊗◌, ◌⊖◌, ring, *ℤ_comm}
 use Rattle.integer_laws.proofs.Signs.{unscaled_lt}
-use Rattle.box_mesh.proofs.Orders.{test_false, from_test, from_test_false, le_is, sign_scaled, sign_of_difference}
+use Rattle.grid_boxes.proofs.Orders.{test_false, from_test, from_test_false, le_is, sign_scaled, sign_of_difference}
 
 swapped : (s t r u : Bool) → (if s then (if t then false else r) else (if t then u else false)) ≡ (if t then (if s then false else u) else (if s then r else false))
 swapped true true r u = refl

@@ -7,12 +7,12 @@ use Rattle.spec_space.specs.Points.{IsPoint}
 use Rattle.spec_solid.specs.Triangles.{Triangle, differ}
 use Rattle.spec_solid.specs.Solids.{Shell, pierces_oddly, is_meant}
 use Rattle.spec_solid.specs.Extrusions.{face_triangles}
-use Rattle.box_mesh.specs.Boxes.{place, quadrilateral, box_faces, grid_body, is_between, is_in_box}
-use Rattle.box_mesh.specs.Ranges.{IsBelow}
+use Rattle.grid_boxes.specs.Boxes.{place, quadrilateral, box_faces, grid_body, is_between, is_in_box}
+use Rattle.grid_boxes.specs.Ranges.{IsBelow}
 use Rattle.integer_laws.proofs.Signs.{scaled_le}
-use Rattle.box_mesh.proofs.Orders.{between_below, between_above}
-use Rattle.box_mesh.proofs.Fans.{level_face, upright_face, pierces_faces}
-use Rattle.box_mesh.proofs.Pierced.{side_face}
+use Rattle.grid_boxes.proofs.Orders.{between_below, between_above}
+use Rattle.grid_boxes.proofs.Fans.{level_face, upright_face, pierces_faces}
+use Rattle.grid_boxes.proofs.Pierced.{side_face}
 
 shell_only : (s : Bool) → ((s || false) && not false) ≡ s
 shell_only true = refl

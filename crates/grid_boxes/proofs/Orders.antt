@@ -2,6 +2,7 @@
 use Rattle.std.proofs.Common.{◌≡◌, ℤ, pos, ◌*ℤ◌, ◌-ℤ◌, ◌<ℤ◌, ◌≤ℤ◌, int_lt, int_le, Bool, true, false, not, ◌&&◌, arith, ap, ◌∙◌, refl, sym}
 use Rattle.std.proofs.lemmas.Int.{ints, by_lt_z}
 use Rattle.spec_solid.specs.Triangles.{differ}
+use Rattle.grid_boxes.specs.Boxes.{is_between}
 use Rattle.integer_laws.proofs.Signs.{mul_negative, mul_nonneg}
 
 pub test_true : (a b : ℤ) → a <ℤ b → int_lt a b ≡ true
@@ -23,6 +24,12 @@ from_test a b e = omega (arith, ints)
 
 pub from_test_false : (a b : ℤ) → int_lt a b ≡ false → b ≤ℤ a
 from_test_false a b e = omega (arith, ints)
+
+pub le_true : (a b : ℤ) → a ≤ℤ b → int_le a b ≡ true
+le_true a b p = grind (arith, ints)
+
+pub le_false : (a b : ℤ) → b <ℤ a → int_le a b ≡ false
+le_false a b p = grind (arith, ints)
 
 pub le_is : (a b : ℤ) → int_le a b ≡ not (int_lt b a)
 le_is a b = by (int_le a b) (int_lt b a) refl refl
@@ -82,3 +89,16 @@ pub between_above : (a b c : ℤ) → a ≤ℤ b → differ (int_le a c) (int_le
 between_above a b c h =
     ap (λ s. differ s (int_le b c)) (le_is a c) ∙ ap (λ t. differ (not (int_lt c a)) t) (le_is b c)
     ∙ step_not (int_lt c a) (int_lt c b) (below_both a b c h) ∙ ap (λ s. s && int_lt c b) (sym (le_is a c))
+
+-- a range from a number to itself is nothing
+pub nothing_between : (low high c w : ℤ) → low ≡ high → is_between low high c w ≡ false
+nothing_between low high c w e = by_lt_z c (low *ℤ w)
+    (λ h. ap (λ x. x && int_lt c (high *ℤ w)) (le_false (low *ℤ w) c h))
+    (λ h. ap (λ x. int_le (low *ℤ w) c && x) (test_false c (high *ℤ w) (same (low *ℤ w) (high *ℤ w) c (ap (λ x. x *ℤ w) e) h)) ∙ never (int_le (low *ℤ w) c))
+  where
+    same : (x y c : ℤ) → x ≡ y → x ≤ℤ c → y ≤ℤ c
+    same x y c e h = omega (arith, ints)
+
+    never : (b : Bool) → (b && false) ≡ false
+    never true = refl
+    never false = refl

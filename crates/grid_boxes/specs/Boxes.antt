@@ -1,5 +1,5 @@
 -- A box on the grid, as a solid.
-use Rattle.std.specs.Prelude.{◌≡◌, ◌⊎◌, ℤ, ◌*ℤ◌, ◌<ℤ◌, int_lt, int_le, Bool, ◌&&◌, List, [], ◌∷◌}
+use Rattle.std.specs.Prelude.{ℤ, ◌*ℤ◌, int_lt, int_le, Bool, ◌&&◌, List, [], ◌∷◌}
 use Rattle.std.specs.List.{flat_map}
 use Rattle.spec_space.specs.declared.Point.{Point}
 use Rattle.spec_space.specs.declared.Vector.{Vector}
@@ -34,13 +34,3 @@ is_between low high c w = int_le (low *ℤ w) c && int_lt c (high *ℤ w)
 abbrev pub is_in_box : Vector → Vector → Point → Bool
 is_in_box low high q =
     is_between low.x high.x q.x q.w && (is_between low.y high.y q.y q.w && is_between low.z high.z q.z q.w)
-
--- no extent is nothing
-pub record IsWide (low high : Vector) : Type 0 where
-  pub x : low.x <ℤ high.x
-  pub y : low.y <ℤ high.y
-  pub z : low.z <ℤ high.z
-
--- some extent is nothing
-abbrev pub IsFlat : Vector → Vector → Type 0
-IsFlat low high = (low.x ≡ high.x) ⊎ ((low.y ≡ high.y) ⊎ (low.z ≡ high.z))

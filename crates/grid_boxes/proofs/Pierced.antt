@@ -7,12 +7,12 @@ use Rattle.spec_space.specs.Points.{IsPoint, dot, way}
 use Rattle.spec_solid.specs.Triangles.{Triangle, differ, passes_above, turn, is_pierced}
 use Rattle.spec_solid.specs.Solids.{pierces_oddly}
 use Rattle.spec_solid.specs.Extrusions.{face_triangles}
-use Rattle.box_mesh.specs.Boxes.{place, quadrilateral}
+use Rattle.grid_boxes.specs.Boxes.{place, quadrilateral}
 use Rattle.integer_laws.proofs.Ring.{var, ◌⊕◌, ◌⊗◌, ◌⊖◌, ring}
 use Rattle.integer_laws.proofs.Signs.{mul_positive, square_positive}
-use Rattle.box_mesh.proofs.Orders.{sign_scaled, sign_of_difference}
-use Rattle.box_mesh.proofs.Edges.{passes_back, upright_edge, level_edge}
-use Rattle.box_mesh.proofs.Fans.{triangle, fan_of_four}
+use Rattle.grid_boxes.proofs.Orders.{sign_scaled, sign_of_difference}
+use Rattle.grid_boxes.proofs.Edges.{passes_back, upright_edge, level_edge}
+use Rattle.grid_boxes.proofs.Fans.{triangle, fan_of_four}
 
 -- what a triangle's test comes to
 pierced_by : (t : Triangle) (q : Point) (r s u n : Bool) → passes_above t.a t.b q ≡ r → passes_above t.b t.c q ≡ s → passes_above t.c t.a q ≡ u → int_lt ((turn t).x *ℤ dot (turn t) (way t.a q)) (pos 0) ≡ n → is_pierced t q ≡ (differ (differ r s) u && n)

@@ -6,10 +6,4 @@ pub mod Inside
 pub mod Members
 pub mod BoxPlanes
 pub mod Planes
-pub mod Neighbours
 pub mod Sides
-pub mod Boundary
-pub mod Corners
-pub mod Full
-pub mod Volume
-pub mod Print

@@ -6,9 +6,9 @@ use Rattle.spec_space.specs.declared.Vector.{Vector}
 use Rattle.spec_solid.specs.Triangles.{Triangle, differ, turn, is_pierced}
 use Rattle.spec_solid.specs.Solids.{pierces_oddly}
 use Rattle.spec_solid.specs.Extrusions.{face_triangles}
-use Rattle.box_mesh.specs.Boxes.{place, quadrilateral}
+use Rattle.grid_boxes.specs.Boxes.{place, quadrilateral}
 use Rattle.integer_laws.proofs.Ring.{var, con, ◌⊗◌, ◌⊖◌, ring}
-use Rattle.box_mesh.proofs.Edges.{not_pierced}
+use Rattle.grid_boxes.proofs.Edges.{not_pierced}
 
 abbrev pub triangle : Vector → Vector → Vector → Triangle
 triangle a b c = record { a = a; b = b; c = c }

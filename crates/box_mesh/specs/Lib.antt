@@ -1,4 +1,0 @@
-pub mod Boxes
-pub mod Meshes
-pub mod Printed
-pub mod Ranges
