@@ -4,7 +4,7 @@ ghost use Rattle.ifc_kinds.specs.Keywords.{keyword_of, is_keyword, is_element};
 
 use crate::table::{Group, ROWS, kind_with};
 
-/// An entity of IFC4 that is read: one value for each keyword of the tables.
+/// An entity of IFC4 that is read: one value for each keyword that is known.
 #[derive(Clone, Copy, Debug, PartialEq, Eq, Hash)]
 pub enum Kind {
     Beam,

@@ -16,8 +16,10 @@ use std::alloc::{AllocError, Global};
 use std::marker::Model;
 use step_text::{StepFile, bytes_at};
 
-/// The instances of a file by their numbers, no two of which are equal. A contract sees the DATA
-/// section of the file: its instances, and the text in which their spans stand.
+/// The instances of a file by their numbers, no two of which are equal (ISO 10303-21), and the
+/// reading of their attributes. A typed value stands for what it holds, one in another too (a rule
+/// of this project). A contract sees the DATA section of the file: its instances, and the text in
+/// which their spans stand.
 #[derive(Drop)]
 pub struct Table<'a> {
     file: StepFile<'a>,
@@ -120,7 +122,13 @@ impl<'a> Table<'a> {
         }
     }
 
-    /// The number of the instance that a parameter refers to.
+    /// The number of the instance that a parameter refers to, as a member of a list: `p` stands in
+    /// the attribute of `at` at this position, which a fault names.
+    ///
+    /// # Errors
+    ///
+    /// `BadAttribute` exactly where the parameter is no reference, unset or derived ones included;
+    /// `Dangling` exactly where it refers to no instance of the file.
     pub fn param_ref(&self, at: u64, position: usize, p: &Param) -> Result<u64, AttrFault>
         ensures { result ≡ read_ref self.now at position p.now }
     {
@@ -134,7 +142,14 @@ impl<'a> Table<'a> {
         }
     }
 
-    /// The value of an integer or a real, in units of 10^-12.
+    /// The value of an integer or a real in units of 10^-12, as a member of a list: `p` stands in
+    /// the attribute of `at` at this position, which a fault names.
+    ///
+    /// # Errors
+    ///
+    /// `BadAttribute` exactly where the parameter is neither, unset or derived ones included;
+    /// `NumberTooLarge` exactly where the rounded value has a size above 10^9 (a limit of this
+    /// project).
     pub fn param_real(&self, at: u64, position: usize, p: &Param) -> Result<i128, AttrFault>
         ensures { result ≡ read_real self.now at position p.now }
     {
@@ -168,7 +183,13 @@ impl<'a> Table<'a> {
         }
     }
 
-    /// The number of the instance that an attribute refers to, and `None` where it is unset.
+    /// The number of the instance that an attribute refers to, and `None` exactly where it is unset,
+    /// derived or missing. Positions count from 1.
+    ///
+    /// # Errors
+    ///
+    /// `BadAttribute` exactly where it is no reference; `Dangling` exactly where it refers to no
+    /// instance of the file.
     pub fn attr_ref(&self, at: u64, position: usize) -> Result<Option<u64>, AttrFault>
         requires simple { IsSimple self.now at }
         requires counted { 1 ≤ position }
@@ -180,7 +201,13 @@ impl<'a> Table<'a> {
         }
     }
 
-    /// The value of a number in units of 10^-12, and `None` where the attribute is unset.
+    /// The value of an integer or a real in units of 10^-12, and `None` exactly where the attribute
+    /// is unset, derived or missing. Positions count from 1.
+    ///
+    /// # Errors
+    ///
+    /// `BadAttribute` exactly where it is neither; `NumberTooLarge` exactly where the rounded value
+    /// has a size above 10^9 (a limit of this project).
     pub fn attr_real(&self, at: u64, position: usize) -> Result<Option<i128>, AttrFault>
         requires simple { IsSimple self.now at }
         requires counted { 1 ≤ position }
@@ -192,8 +219,12 @@ impl<'a> Table<'a> {
         }
     }
 
-    /// The letters of an enumeration between its points, as they stand in the source, and `None`
-    /// where the attribute is unset.
+    /// The bytes of an enumeration between its points, as they stand in the source, and `None`
+    /// exactly where the attribute is unset, derived or missing. Positions count from 1.
+    ///
+    /// # Errors
+    ///
+    /// `BadAttribute` exactly where it is no enumeration.
     pub fn attr_enum(&self, at: u64, position: usize) -> Result<Option<&[u8]>, AttrFault>
         requires simple { IsSimple self.now at }
         requires counted { 1 ≤ position }
@@ -206,7 +237,12 @@ impl<'a> Table<'a> {
     }
 
     /// The bytes of a text between its outer quotes, as they stand in the source: a quote in it is
-    /// doubled, and directives behind a backslash are not decoded. `None` where it is unset.
+    /// doubled, and directives behind a backslash are not decoded. `None` exactly where the
+    /// attribute is unset, derived or missing. Positions count from 1.
+    ///
+    /// # Errors
+    ///
+    /// `BadAttribute` exactly where it is no text.
     pub fn attr_text(&self, at: u64, position: usize) -> Result<Option<&[u8]>, AttrFault>
         requires simple { IsSimple self.now at }
         requires counted { 1 ≤ position }
@@ -218,7 +254,12 @@ impl<'a> Table<'a> {
         }
     }
 
-    /// The members of a list, as they stand, and `None` where the attribute is unset.
+    /// The members of a list, as they stand, and `None` exactly where the attribute is unset,
+    /// derived or missing. Positions count from 1.
+    ///
+    /// # Errors
+    ///
+    /// `BadAttribute` exactly where it is no list.
     pub fn attr_list(&self, at: u64, position: usize) -> Result<Option<&[Param]>, AttrFault>
         requires simple { IsSimple self.now at }
         requires counted { 1 ≤ position }
