@@ -1,0 +1,5 @@
+mod Simple
+mod Swept
+mod Firsts
+mod Deeper
+mod Read

@@ -1,0 +1,100 @@
+-- Reading in order: what is read, or the first refusal.
+use Rattle.std.specs.Prelude.{ℕ, ℤ, Bool, true, false, List, [], ◌∷◌, Option, Some, None, is_none, Result, Ok, Err}
+use Rattle.std.specs.List.{list_any}
+use Rattle.spec_step.specs.Spans.{bytes_at}
+use Rattle.spec_step.specs.declared.tree.Param.{Param}
+use Rattle.spec_step.specs.declared.tree.Body.{Body}
+use Rattle.spec_step.specs.declared.tree.Body.TheVariants.{Simple, Complex}
+use Rattle.spec_step.specs.declared.tree.Instance.{Instance}
+use Rattle.spec_table.specs.Sections.{DataSection, instance_of}
+use Rattle.spec_table.specs.Attributes.{Reading, attribute, attr_ref, attr_real, attr_list, read_ref, read_real}
+use Rattle.spec_table.specs.declared.fault.AttrFault.{AttrFault}
+use Rattle.spec_table.specs.declared.fault.AttrFault.TheVariants as fault
+use Rattle.ifc_kinds.specs.Keywords.{is_keyword}
+use Rattle.ifc_kinds.specs.declared.kind.Kind.{Kind}
+use Rattle.spec_entity.specs.declared.refusal.Refusal.{Refusal}
+use Rattle.spec_entity.specs.declared.refusal.Refusal.TheVariants.{Unsupported, BadAttribute, Dangling, NumberTooLarge}
+
+abbrev pub Read : Type 0 → Type 0
+Read T = Result T Refusal
+
+-- first this, and then what follows from it
+abbrev pub next : {T U : Type 0} → Read T → (T → Read U) → Read U
+next (Ok x) go_on = go_on x
+next (Err refusal) go_on = Err refusal
+
+-- this, if the test is passed
+abbrev pub only_if : {T : Type 0} → Bool → Refusal → Read T → Read T
+only_if true refusal go_on = go_on
+only_if false refusal go_on = Err refusal
+
+abbrev pub refusal_of : AttrFault → Refusal
+refusal_of (fault.BadAttribute at position) = BadAttribute at position
+refusal_of (fault.Dangling at number) = Dangling at number
+refusal_of (fault.NumberTooLarge at) = NumberTooLarge at
+
+abbrev pub as_read : {T : Type 0} → Reading T → Read T
+as_read (Ok x) = Ok x
+as_read (Err f) = Err (refusal_of f)
+
+-- an attribute that must be set
+abbrev pub wanted : {T : Type 0} → ℕ → ℕ → Reading (Option T) → Read T
+wanted at position (Ok (Some x)) = Ok x
+wanted at position (Ok None) = Err (BadAttribute at position)
+wanted at position (Err f) = Err (refusal_of f)
+
+-- an attribute that says more than is read where it is set
+abbrev pub unset : {T : Type 0} → DataSection → ℕ → ℕ → Read T → Read T
+unset section at position go_on = only_if (is_none (attribute section at position)) (Unsupported at) go_on
+
+-- Kinds.
+
+abbrev pub body_has_kind : List ℕ → Kind → Body → Bool
+body_has_kind text k (Simple e) = is_keyword k (bytes_at text e.keyword)
+body_has_kind text k (Complex es) = false
+
+abbrev pub instance_has_kind : List ℕ → Kind → Option Instance → Bool
+instance_has_kind text k (Some i) = body_has_kind text k i.body
+instance_has_kind text k None = false
+
+-- the instance has one entry with the keyword of the kind
+abbrev pub has_kind : DataSection → ℕ → Kind → Bool
+has_kind section n k = instance_has_kind section.text k (instance_of section n)
+
+-- the instance has one of these kinds
+abbrev pub is_one_of : DataSection → List Kind → ℕ → Bool
+is_one_of section kinds n = list_any (has_kind section n) kinds
+
+abbrev pub of_kinds : DataSection → List Kind → ℕ → Read ℕ
+of_kinds section kinds n = only_if (is_one_of section kinds n) (Unsupported n) (Ok n)
+
+-- References, lists and numbers.
+
+-- the instance that a wanted attribute names, of one of these kinds
+abbrev pub named : DataSection → List Kind → ℕ → ℕ → Read ℕ
+named section kinds at position = next (wanted at position (attr_ref section at position)) (of_kinds section kinds)
+
+-- the instance that a member of a list names
+abbrev pub named_by : DataSection → ℕ → ℕ → Param → Read ℕ
+named_by section at position p = as_read (read_ref section at position p)
+
+abbrev pub if_any : {X : Type 0} → ℕ → ℕ → List X → Read (List X)
+if_any at position [] = Err (BadAttribute at position)
+if_any at position (x ∷ xs) = Ok (x ∷ xs)
+
+-- the members of a wanted list, of which there must be one
+abbrev pub members : DataSection → ℕ → ℕ → Read (List Param)
+members section at position = next (wanted at position (attr_list section at position)) (if_any at position)
+
+-- each of them, in order
+abbrev pub each : {X T : Type 0} → (X → Read T) → List X → Read (List T)
+each read [] = Ok []
+each read (x ∷ xs) = next (read x) (λ y. next (each read xs) (λ ys. Ok (y ∷ ys)))
+
+-- a number of a list, in units of 10^-12
+abbrev pub number : DataSection → ℕ → ℕ → Param → Read ℤ
+number section at position p = as_read (read_real section at position p)
+
+-- a wanted number, in units of 10^-12
+abbrev pub wanted_number : DataSection → ℕ → ℕ → Read ℤ
+wanted_number section at position = wanted at position (attr_real section at position)
