@@ -1,7 +1,7 @@
 -- The solid of an instance, one step in.
 use Rattle.std.proofs.Common.{◌≡◌, ℕ, zero, suc, ◌-◌, Err, refl, sym, subst, arith}
 use Rattle.spec_table.specs.Sections.{DataSection}
-use Rattle.spec_entity.specs.declared.refusal.Refusal.TheVariants.{TooDeep}
+use Rattle.spec_refusal.specs.declared.Refusal.TheVariants.{TooDeep}
 use Rattle.spec_entity.specs.Solids.{solid, solid_by}
 
 pub too_deep : (d : ℕ) (section : DataSection) (n count : ℕ) → d ≡ 0 → solid d section n count ≡ Err (TooDeep n)

@@ -5,7 +5,7 @@ use Rattle.std.specs.Option.{option_map}
 use Rattle.spec_step.specs.declared.tree.Param.{Param}
 use Rattle.spec_entity.specs.Elements.{Chosen}
 use Rattle.spec_solid.specs.Solids.{Operator, Union, Intersection, Difference}
-use Rattle.spec_entity.specs.declared.refusal.Refusal.{Refusal}
+use Rattle.spec_refusal.specs.declared.Refusal.{Refusal}
 use Rattle.spec_entity.specs.Reads.{Read}
 use Rattle.spec_entity.specs.Expressions.{Expression, Faces, Pair, Root, block_faces}
 use Rattle.box_reader.specs.declared.solids.Operator as read_operator

@@ -7,7 +7,7 @@ use Rattle.spec_step.specs.declared.tree.Param.{Param}
 use Rattle.spec_table.specs.Sections.{DataSection}
 use Rattle.spec_table.specs.Attributes.{Reading, attr_ref, attr_text}
 use Rattle.ifc_kinds.specs.declared.kind.Kind.TheVariants as kind
-use Rattle.spec_entity.specs.declared.refusal.Refusal.TheVariants.{Unsupported}
+use Rattle.spec_refusal.specs.declared.Refusal.TheVariants.{Unsupported}
 use Rattle.spec_entity.specs.Reads.{Read, next, only_if, as_read, unset, of_kinds, has_kind, named, named_by, members}
 use Rattle.spec_entity.specs.Points.{axes, is_zero}
 use Rattle.spec_entity.specs.Solids.{items}

@@ -2,13 +2,13 @@
 use Rattle.std.specs.Prelude.{ℕ, ℤ, pos, neg_ℤ, ◌+ℤ◌, List, [], ◌∷◌, map}
 use Rattle.spec_num.specs.Rounding.{round_of}
 use Rattle.spec_space.specs.declared.Vector.{Vector}
-use Rattle.spec_solid.specs.Solids.{Operator}
+use Rattle.spec_solid.specs.declared.BoolOp.{BoolOp}
 use Rattle.spec_solid.specs.Extrusions.{plus, extrusion}
 
 -- the faces of a primitive, with its corners in nanometres, and solids combined, each with the number of its instance
 pub data Expression : Type 0 where
   Faces : ℕ → List (List (List Vector)) → Expression
-  Pair : ℕ → Operator → Expression → Expression → Expression
+  Pair : ℕ → BoolOp → Expression → Expression → Expression
   Root : ℕ → Expression → Expression
 
 -- the lower end of an extent that is centred on 0

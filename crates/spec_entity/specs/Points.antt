@@ -5,7 +5,7 @@ use Rattle.spec_space.specs.declared.Vector.{Vector}
 use Rattle.spec_step.specs.declared.tree.Param.{Param}
 use Rattle.spec_table.specs.Sections.{DataSection}
 use Rattle.ifc_kinds.specs.declared.kind.Kind.TheVariants as kind
-use Rattle.spec_entity.specs.declared.refusal.Refusal.TheVariants.{BadAttribute, NumberTooLarge, BadDirection}
+use Rattle.spec_refusal.specs.declared.Refusal.TheVariants.{BadAttribute, NumberTooLarge, BadDirection}
 use Rattle.spec_entity.specs.Reads.{Read, next, only_if, unset, named, members, each, number}
 use Rattle.spec_entity.specs.Units as units
 

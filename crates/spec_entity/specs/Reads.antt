@@ -12,8 +12,8 @@ use Rattle.spec_table.specs.declared.fault.AttrFault.{AttrFault}
 use Rattle.spec_table.specs.declared.fault.AttrFault.TheVariants as fault
 use Rattle.ifc_kinds.specs.Keywords.{is_keyword}
 use Rattle.ifc_kinds.specs.declared.kind.Kind.{Kind}
-use Rattle.spec_entity.specs.declared.refusal.Refusal.{Refusal}
-use Rattle.spec_entity.specs.declared.refusal.Refusal.TheVariants.{Unsupported, BadAttribute, Dangling, NumberTooLarge}
+use Rattle.spec_refusal.specs.declared.Refusal.{Refusal}
+use Rattle.spec_refusal.specs.declared.Refusal.TheVariants.{Unsupported, BadAttribute, Dangling, NumberTooLarge}
 
 abbrev pub Read : Type 0 → Type 0
 Read T = Result T Refusal

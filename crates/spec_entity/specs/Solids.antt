@@ -3,12 +3,13 @@ use Rattle.std.specs.Prelude.{ℕ, ℤ, pos, zero, suc, ◌+◌, Bool, ◌&&◌,
 use Rattle.std.specs.Str.{str_eq_ignore_ascii_case}
 use Rattle.std.specs.Ordering.{int_eq}
 use Rattle.spec_space.specs.declared.Vector.{Vector}
-use Rattle.spec_solid.specs.Solids.{Operator, Union, Intersection, Difference}
+use Rattle.spec_solid.specs.declared.BoolOp.{BoolOp}
+use Rattle.spec_solid.specs.declared.BoolOp.TheVariants.{Union, Intersection, Difference}
 use Rattle.spec_step.specs.declared.tree.Param.{Param}
 use Rattle.spec_table.specs.Sections.{DataSection}
 use Rattle.spec_table.specs.Attributes.{attr_enum, attr_ref}
 use Rattle.ifc_kinds.specs.declared.kind.Kind.TheVariants as kind
-use Rattle.spec_entity.specs.declared.refusal.Refusal.TheVariants.{Unsupported, BadAttribute, TooDeep, ElementTooLarge}
+use Rattle.spec_refusal.specs.declared.Refusal.TheVariants.{Unsupported, BadAttribute, TooDeep, ElementTooLarge}
 use Rattle.spec_entity.specs.Reads.{Read, next, only_if, wanted, unset, is_one_of, has_kind, named, named_by}
 use Rattle.spec_entity.specs.Units.{positive}
 use Rattle.spec_entity.specs.Points.{direction, axes}
@@ -64,13 +65,13 @@ extruded section n count =
     next (sweeps_upwards section n) (λ _.
     next (positive section n 4) (λ depth. Ok (Faces n (prism_faces swept.0 swept.1 depth), swept.2))))))
 
-abbrev pub operator_named : ℕ → List ℕ → Read Operator
+abbrev pub operator_named : ℕ → List ℕ → Read BoolOp
 operator_named n text =
     if str_eq_ignore_ascii_case text (codes "UNION") then Ok Union
     else (if str_eq_ignore_ascii_case text (codes "INTERSECTION") then Ok Intersection
     else (if str_eq_ignore_ascii_case text (codes "DIFFERENCE") then Ok Difference else Err (BadAttribute n 1)))
 
-abbrev pub operator : DataSection → ℕ → Read Operator
+abbrev pub operator : DataSection → ℕ → Read BoolOp
 operator section n = next (wanted n 1 (attr_enum section n 1)) (operator_named n)
 
 -- the operands of a Boolean result, read one after the other

@@ -8,9 +8,9 @@ use Rattle.spec_step.specs.declared.tree.Param.{Param}
 use Rattle.spec_table.specs.Sections.{DataSection}
 use Rattle.spec_table.specs.Attributes.{Reading, attr_enum, read_ref}
 use Rattle.ifc_kinds.specs.declared.kind.Kind.TheVariants as kind
-use Rattle.spec_entity.specs.declared.refusal.Refusal.TheVariants.{NumberTooLarge, BadAttribute}
-use Rattle.spec_entity.specs.declared.refusal.UnitFault.{UnitFault}
-use Rattle.spec_entity.specs.declared.refusal.UnitFault.TheVariants.{NoProject, NoLengthUnit}
+use Rattle.spec_refusal.specs.declared.Refusal.TheVariants.{NumberTooLarge, BadAttribute}
+use Rattle.spec_refusal.specs.declared.UnitFault.{UnitFault}
+use Rattle.spec_refusal.specs.declared.UnitFault.TheVariants.{NoProject, NoLengthUnit}
 use Rattle.spec_entity.specs.Reads.{Read, next, only_if, has_kind, is_one_of, named, members, number, wanted_number, body_has_kind}
 
 -- the number of the first project of the file

@@ -1,6 +1,3 @@
-//! What the entities of IFC4 mean that are read: length units, boxes and their combinations, elements.
+//! What the entities of IFC4 mean that are read: length units, boxes and their combinations, elements. This crate has
+//! definitions alone.
 #![tactic(auto)]
-
-mod refusal;
-
-pub use refusal::{Refusal, UnitFault};

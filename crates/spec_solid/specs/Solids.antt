@@ -3,21 +3,17 @@ use Rattle.std.specs.Prelude.{pos, Bool, false, not, ◌&&◌, ◌||◌, int_lt,
 use Rattle.spec_space.specs.declared.Point.{Point}
 use Rattle.spec_space.specs.declared.Plane.{Plane}
 use Rattle.spec_space.specs.Points.{value}
+use Rattle.spec_solid.specs.declared.BoolOp.{BoolOp}
+use Rattle.spec_solid.specs.declared.BoolOp.TheVariants.{Union, Intersection, Difference}
 use Rattle.spec_solid.specs.Triangles.{Triangle, differ, is_pierced}
-
--- the Boolean operators of IFC4
-pub data Operator : Type 0 where
-  Union : Operator
-  Intersection : Operator
-  Difference : Operator
 
 -- a shell of triangles, a half-space with its material in front of its plane or behind it, and two solids combined
 pub data Solid : Type 0 where
   Shell : List Triangle → Solid
   HalfSpace : Plane → Bool → Solid
-  Combined : Operator → Solid → Solid → Solid
+  Combined : BoolOp → Solid → Solid → Solid
 
-abbrev pub truth : Operator → Bool → Bool → Bool
+abbrev pub truth : BoolOp → Bool → Bool → Bool
 truth Union p q = p || q
 truth Intersection p q = p && q
 truth Difference p q = p && not q
