@@ -5,7 +5,7 @@ use Rattle.spec_step.specs.declared.line.PlainLine.{PlainLine}
 use Rattle.spec_run.specs.Words.{names_convert}
 use Rattle.spec_run.specs.Inputs.{most_bytes, IsNotBuilt, IsWall, IsElementOf}
 use Rattle.spec_page.specs.Element.{Element}
-use Rattle.spec_page.specs.Page.{page_text}
+use Rattle.spec_page.specs.Lines.{page_text}
 use Rattle.spec_run.specs.Runs.{IsFound, IsNumbered}
 use Rattle.spec_run.specs.declared.Outcome.{Outcome}
 use Rattle.spec_run.specs.declared.Outcome.TheVariants.{Page, NotBuilt, TooLarge, ReadFault, NoMemory, Usage}

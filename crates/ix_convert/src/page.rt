@@ -1,6 +1,6 @@
 ghost use Rattle.std.specs.Prelude.{◌≡◌, ℕ, ◌+◌, ◌<◌, ◌^◌, ◌++◌, [], ◌∷◌, OnOk, codes};
 ghost use Rattle.std.specs.List.{flat_map};
-ghost use Rattle.spec_page.specs.Page.{spaced, spaced_three, spaced_vector, spaced_metres, six_digits, size_in_metres, metres, plane_line, frame_line, exact_line, printed_line, corner_lines, index_text, indices_line, face_lines, volume_line, number_line, element_body, page_text};
+ghost use Rattle.spec_page.specs.Lines.{spaced, spaced_three, spaced_vector, spaced_metres, six_digits, size_in_metres, metres, plane_line, frame_line, exact_line, printed_line, corner_lines, index_text, indices_line, face_lines, volume_line, number_line, element_body, page_text};
 ghost use Rattle.plane_core.specs.Views.{point_of};
 ghost use Rattle.exact_mesh.specs.Meshes.{plane_of, vector_of, face_of};
 ghost use Rattle.plain_engine.specs.Prints.{page_corners, element_of};

@@ -6,7 +6,7 @@ ghost use Rattle.spec_run.specs.declared.Outcome.{Outcome};
 ghost use Rattle.spec_run.specs.Words.{names_convert};
 ghost use Rattle.spec_run.specs.Inputs.{most_bytes, IsNotBuilt, IsWall, IsElementOf};
 ghost use Rattle.spec_page.specs.Element.{Element};
-ghost use Rattle.spec_page.specs.Page.{page_text};
+ghost use Rattle.spec_page.specs.Lines.{page_text};
 ghost use Rattle.spec_run.specs.Reports.{report_of};
 ghost use Rattle.spec_run.specs.Runs.{IsFound, IsPage};
 ghost use Rattle.ix_convert.specs.Statuses.{status_of, Yields, IsRefusal};

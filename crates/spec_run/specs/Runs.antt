@@ -2,7 +2,7 @@
 use Rattle.std.specs.Prelude.{◌≡◌, ℕ, ◌<◌, true, false, List, [], ◌∷◌, length}
 use Rattle.spec_step.specs.declared.line.PlainLine.{PlainLine}
 use Rattle.spec_page.specs.Element.{Element}
-use Rattle.spec_page.specs.Page.{page_text}
+use Rattle.spec_page.specs.Lines.{page_text}
 use Rattle.spec_run.specs.Words.{names_convert}
 use Rattle.spec_run.specs.Inputs.{most_bytes, IsNotBuilt, IsWall, IsElementOf}
 use Rattle.spec_run.specs.declared.Outcome.{Outcome}

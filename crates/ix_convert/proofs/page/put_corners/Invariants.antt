@@ -1,6 +1,6 @@
 use Rattle.std.proofs.Common.{◌≡◌, ◌++◌, length}
 use Rattle.std.specs.List.{flat_map}
-use Rattle.spec_page.specs.Page.{corner_lines}
+use Rattle.spec_page.specs.Lines.{corner_lines}
 use Rattle.plain_engine.specs.Prints.{page_corners}
 use Rattle.ix_convert.proofs.page.put_corners.Given as goal
 

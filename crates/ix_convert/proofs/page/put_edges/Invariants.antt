@@ -1,6 +1,6 @@
 use Rattle.std.proofs.Common.{◌≡◌, ◌++◌, drop, codes}
 use Rattle.std.specs.List.{flat_map}
-use Rattle.spec_page.specs.Page.{plane_line}
+use Rattle.spec_page.specs.Lines.{plane_line}
 use Rattle.exact_mesh.specs.Meshes.{plane_of}
 use Rattle.ix_convert.proofs.page.put_edges.Given as goal
 

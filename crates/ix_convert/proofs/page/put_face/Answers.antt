@@ -1,6 +1,6 @@
 use Rattle.std.proofs.Common.{◌≡◌, ◌++◌, ◌∙◌, ap, sym, codes, map}
 use Rattle.std.specs.List.{flat_map}
-use Rattle.spec_page.specs.Page.{plane_line, indices_line}
+use Rattle.spec_page.specs.Lines.{plane_line, indices_line}
 use Rattle.exact_mesh.specs.Meshes.{plane_of}
 use Rattle.ix_convert.proofs.Texts.{joined_three, flat_map-map, on_ok}
 use Rattle.ix_convert.proofs.page.put_face.Goals as goal

@@ -1,6 +1,6 @@
 use Rattle.std.proofs.Common.{◌≡◌, ◌++◌, drop}
 use Rattle.std.specs.List.{flat_map}
-use Rattle.spec_page.specs.Page.{face_lines}
+use Rattle.spec_page.specs.Lines.{face_lines}
 use Rattle.exact_mesh.specs.Meshes.{face_of}
 use Rattle.ix_convert.proofs.page.put_faces.Given as goal
 

@@ -1,6 +1,6 @@
 use Rattle.std.proofs.Common.{◌≡◌, ◌++◌, ◌∙◌, ap, sym, map}
 use Rattle.std.specs.List.{flat_map}
-use Rattle.spec_page.specs.Page.{corner_lines, face_lines, volume_line}
+use Rattle.spec_page.specs.Lines.{corner_lines, face_lines, volume_line}
 use Rattle.exact_mesh.specs.Meshes.{face_of}
 use Rattle.plain_engine.specs.Prints.{page_corners}
 use Rattle.ix_convert.proofs.Texts.{joined_three, flat_map-map, on_ok}

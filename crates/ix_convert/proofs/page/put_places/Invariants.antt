@@ -1,6 +1,6 @@
 use Rattle.std.proofs.Common.{◌≡◌, ◌++◌, drop}
 use Rattle.std.specs.List.{flat_map}
-use Rattle.spec_page.specs.Page.{index_text}
+use Rattle.spec_page.specs.Lines.{index_text}
 use Rattle.ix_convert.proofs.page.put_places.Given as goal
 
 -- what was put so far, with what is still to come, is the whole text
