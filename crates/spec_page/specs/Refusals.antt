@@ -1,8 +1,9 @@
 -- The texts of refusals.
-use Rattle.std.specs.Prelude.{ℕ, List, [], ◌∷◌, ◌++◌, codes}
+use Rattle.std.specs.Prelude.{ℕ, ℤ, List, [], ◌∷◌, ◌++◌, codes}
 use Rattle.std.specs.Fmt.{decimal, signed_decimal}
 use Rattle.spec_space.specs.declared.Vector.{Vector}
 use Rattle.spec_refusal.specs.declared.Refusal.{Refusal}
+use Rattle.spec_page.specs.Lines.{spaced}
 use Rattle.spec_refusal.specs.declared.Refusal.TheVariants.{Unsupported, Curved, BadAttribute, Dangling, NumberTooLarge, BadDirection, ScaleOutOfRange, TooDeep, ElementTooLarge, CornerTooFar, OpenShell, PlaneTooLarge, Unbounded}
 
 -- a name, and behind it the number of an instance
@@ -13,9 +14,13 @@ named_at name at = name ++ codes " #" ++ decimal at
 abbrev pub spaced_number : ℕ → List ℕ
 spaced_number n = 32 ∷ decimal n
 
+-- a whole number behind a comma
+abbrev pub further : ℤ → List ℕ
+further n = 44 ∷ signed_decimal n
+
 -- three coordinates behind a space, with commas between them
 abbrev pub spaced_corner : Vector → List ℕ
-spaced_corner v = 32 ∷ (signed_decimal v.x ++ 44 ∷ (signed_decimal v.y ++ 44 ∷ signed_decimal v.z))
+spaced_corner v = spaced v.x ++ further v.y ++ further v.z
 
 -- code, name and numbers
 abbrev pub refusal_text : Refusal → List ℕ
