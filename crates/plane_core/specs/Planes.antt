@@ -2,8 +2,8 @@
 use Rattle.std.specs.Prelude.{◌≢◌, ◌≡◌, zero, suc, ℤ, negsuc, pos, ◌*ℤ◌, ◌<ℤ◌}
 use Rattle.spec_space.specs.declared.Point.{Point}
 use Rattle.spec_space.specs.Points.{IsPoint, value, normal, dot, cross}
-use Rattle.spec_solid.specs.Planes.{IsTimes}
-use Rattle.plane_core.specs.Points.{IsSamePoint}
+use Rattle.spec_space.specs.Reduced.{IsTimes}
+use Rattle.spec_space.specs.Sums.{IsSamePoint}
 use Rattle.plane_core.specs.Views.{plane_of, point_of}
 use Rattle.plane_core.specs.declared.numbers.Plane.{Plane}
 use Rattle.plane_core.specs.declared.numbers.Corner.{Corner}

@@ -1,5 +1,6 @@
 ghost use Rattle.std.specs.Prelude.{◌≡◌, ◌≢◌, ◌↔◌, IsNone, IfSome, ◌*ℤ◌, ◌*◌, ◌≤◌, ◌^◌, pos, ◌<ℤ◌, unsigned_abs};
-ghost use Rattle.plane_core.specs.Numbers.{det2, det3, IsRow};
+ghost use Rattle.integer_laws.specs.Determinants.{det2, det3};
+ghost use Rattle.plane_core.specs.Numbers.{IsRow};
 ghost use Rattle.spec_space.specs.Points.{value};
 ghost use Rattle.plane_core.specs.Views.{plane_of, point_of};
 ghost use Rattle.plane_core.specs.Planes.{sign_of, normals_det, IsCommonPoint, IsMultipleOf};

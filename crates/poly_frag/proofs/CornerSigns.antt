@@ -7,7 +7,7 @@ use Rattle.spec_space.specs.declared.Plane.{Plane}
 use Rattle.spec_space.specs.Points.{value}
 use Rattle.plane_core.specs.declared.numbers.Corner.{Corner}
 use Rattle.plane_core.specs.Views.{point_of}
-use Rattle.plane_core.proofs.Cancel.{sign_cases, positive_right}
+use Rattle.integer_laws.proofs.Cancel.{sign_cases, positive_right}
 use Rattle.convex_cycles.specs.Cycles.{Step, IsEdgeOf}
 use Rattle.convex_cycles.proofs.Lists.{Each, Member}
 use Rattle.convex_cycles.proofs.Orders.{weaker, level}

@@ -8,9 +8,9 @@ use Rattle.spec_space.specs.declared.Plane.{Plane}
 use Rattle.spec_space.specs.Points.{IsPoint, value, opposite}
 use Rattle.plane_core.specs.declared.numbers.Plane.{Plane as BookPlane}
 use Rattle.plane_core.specs.declared.numbers.Corner.{Corner}
-use Rattle.plane_core.specs.Points.{IsSamePoint}
+use Rattle.spec_space.specs.Sums.{IsSamePoint}
 use Rattle.plane_core.specs.Views.{point_of}
-use Rattle.plane_core.proofs.Cancel.{positive_right, nonpos_right, mul_nonpos}
+use Rattle.integer_laws.proofs.Cancel.{positive_right, nonpos_right, mul_nonpos}
 use Rattle.plane_core.proofs.Laws.{common_point_unique}
 use Rattle.convex_cycles.specs.Sides.{is_in_front}
 use Rattle.convex_cycles.specs.Cycles.{Step, IsEdgeOf, AreChained, AreConvex}

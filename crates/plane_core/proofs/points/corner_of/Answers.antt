@@ -2,7 +2,7 @@ use Rattle.std.proofs.Common.{FitsSigned, le_trans}
 use Rattle.std.proofs.lemmas.Int.{to_z-of_z}
 use mir.Syntax.{w128}
 use Rattle.plane_core.proofs.Divisors.{gcd_positive, smaller, coprime_left}
-use Rattle.plane_core.proofs.Cancel.{positive_right}
+use Rattle.integer_laws.proofs.Cancel.{positive_right}
 use Rattle.plane_core.proofs.points.corner_of.Goals as goal
 
 pub quotient-requires-clause-positive : goal.quotient-requires-clause-positive

@@ -1,7 +1,8 @@
 use Rattle.std.proofs.Common.{FitsSigned, sym, ap, ◌∙◌, true≢false, refl, of_z}
 use mir.Syntax.{w128}
-use Rattle.plane_core.proofs.Sizes.{arg, again, known, product, fits, small}
-use Rattle.plane_core.proofs.Cramer as C
+use Rattle.integer_laws.proofs.Computed.{arg, again, product, fits, zero_bits}
+use Rattle.plane_core.proofs.Sizes.{known, small}
+use Rattle.integer_laws.proofs.Cramer as C
 use Rattle.spec_space.specs.declared.Point.{Point}
 use Rattle.plane_core.proofs.points.meet.Goals as goal
 
@@ -10,7 +11,7 @@ returns-then-w-eq0-clause-dependent c =
     let w_fits : FitsSigned w128 c.weight_part-w.result = record { sfits = c.weight_part-w.type_inv } in
     let w_is = c.weight_part-w.ensures.value in
     let triple = C.triple c.args.p.now.a c.args.p.now.b c.args.p.now.c c.args.q.now.a c.args.q.now.b c.args.q.now.c c.args.r.now.a c.args.r.now.b c.args.r.now.c in
-    ((λ _. sym triple ∙ sym w_is ∙ C.zero_bits c.weight_part-w.result w_fits c.if-w-eq0.true), (λ _. refl))
+    ((λ _. sym triple ∙ sym w_is ∙ zero_bits c.weight_part-w.result w_fits c.if-w-eq0.true), (λ _. refl))
 
 pub returns-clause-dependent : goal.returns-clause-dependent
 returns-clause-dependent c =

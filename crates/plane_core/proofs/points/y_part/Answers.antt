@@ -1,4 +1,5 @@
-use Rattle.plane_core.proofs.Sizes.{arg, again, after, det_is, small}
+use Rattle.integer_laws.proofs.Computed.{arg, again}
+use Rattle.plane_core.proofs.Sizes.{after, det_is, small}
 use Rattle.plane_core.proofs.points.y_part.Goals as goal
 
 pub returns : goal.returns

@@ -1,10 +1,9 @@
 -- Three planes with independent normals have one common point, by Cramer's rule.
-use Rattle.std.proofs.Common.{◌≡◌, List, [], ◌∷◌, ℤ, pos, ◌+ℤ◌, ◌-ℤ◌, ◌*ℤ◌, ◌<ℤ◌, refl, sym, ap, ◌∙◌, arith, FitsSigned, to_z, of_z}
-use Rattle.std.proofs.lemmas.Int.{ints, to_z-of_z}
+use Rattle.std.proofs.Common.{◌≡◌, List, [], ◌∷◌, ℤ, pos, ◌+ℤ◌, ◌-ℤ◌, ◌*ℤ◌, ◌<ℤ◌, refl, sym, ap, ◌∙◌, arith}
+use Rattle.std.proofs.lemmas.Int.{ints}
 use Rattle.integer_laws.proofs.Ring.{Expr, var, con, ◌⊕◌, ◌⊗◌, ◌⊖◌, ring, *ℤ_assoc}
-use Rattle.plane_core.proofs.Cancel.{zero_right, cancel, mul_zero_right}
-use mir.Syntax.{w128}
-use Rattle.plane_core.specs.Numbers.{det2, det3}
+use Rattle.integer_laws.proofs.Cancel.{zero_right, cancel, mul_zero_right}
+use Rattle.integer_laws.specs.Determinants.{det2, det3}
 
 -- the value of the plane a, b, c, d at the point x, y, z, w
 abbrev pub side_value : ℤ → ℤ → ℤ → ℤ → ℤ → ℤ → ℤ → ℤ → ℤ
@@ -130,6 +129,3 @@ same_corner s x w k p t u v h ex ew e =
 
     turned' : (a b c : ℤ) → a *ℤ (b *ℤ c) ≡ b *ℤ (a *ℤ c)
     turned' a b c = sym (turned a b c)
-
-pub zero_bits : (z : ℤ) → FitsSigned w128 z → of_z w128 z ≡ 0 → z ≡ pos 0
-zero_bits z f e = sym (to_z-of_z w128 z f) ∙ ap (to_z w128) e

@@ -1,4 +1,4 @@
--- Points as four whole numbers: sums, multiples, and when two are one place.
+-- Sums and multiples of points, and when two points are one place.
 use Rattle.std.specs.Prelude.{◌≡◌, ℤ, ◌+ℤ◌, ◌*ℤ◌}
 use Rattle.spec_space.specs.declared.Point.{Point}
 
