@@ -7,7 +7,3 @@ pub mod Lexemes
 pub mod Grammar
 pub mod Files
 pub mod Canonical
-pub mod Slots
-pub mod Lines
-pub mod Rules
-pub mod Sound

@@ -4,9 +4,6 @@ pub mod Gaps
 pub mod Words
 pub mod Unique
 pub mod Places
-pub mod Forms
-pub mod Whole
-pub mod Ends
 pub mod Runs
 pub mod Laws
 pub mod Capitals
@@ -22,11 +19,3 @@ pub mod Schemas
 pub mod Glue
 pub mod Repeats
 pub mod HasRead
-pub mod Filling
-pub mod Faults
-pub mod Names
-pub mod Reading
-pub mod Kept
-pub mod Soundness
-pub mod OneFile
-pub mod ByNumber

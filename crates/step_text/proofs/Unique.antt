@@ -1,8 +1,7 @@
--- What stands in a text is one: one gap, one token, one form, and one place of a fault.
+-- What stands in a text is one: one gap, one token.
 use Rattle.std.proofs.Common.{◌≡◌, ℕ, ◌+◌, ◌-◌, ◌<◌, ◌≤◌, zero, suc, Bool, true, false, ◌==◌, List, [], ◌∷◌, length, take, drop, Option, Some, None, refl, sym, ◌∙◌, ap, arith, subst, inl, inr, ◌⊎◌, if◌then◌else◌, length-drop}
 use Rattle.std.proofs.lemmas.Bool.{cases_order, true≢false, eqb-true}
 use Rattle.spec_step.specs.declared.token.Token.{Token}
-use Rattle.spec_step.specs.declared.token.Span.{Span}
 use Rattle.spec_step.specs.declared.token.TokenKind.{TokenKind}
 use Rattle.spec_step.specs.declared.token.TokenKind.TheVariants as kind
 use Rattle.spec_step.specs.declared.token.TokenStep.{TokenStep}
@@ -10,7 +9,6 @@ use Rattle.spec_step.specs.declared.token.TokenStep.TheVariants.{Got, Bad, End}
 use Rattle.spec_step.specs.Spelling.{by_class, is_spelled, one}
 use Rattle.spec_step.specs.Longest.{IsLongest, NoToken}
 use Rattle.spec_step.specs.Gaps.{is_blank, IsPiece, Pieces, IsComment, IsBlankAt, GapEnds, IsNext}
-use Rattle.spec_step.specs.Form.{Piece, Fixed, AnyName, is_same, is_as_in, is_name, is_name_step, place_of, Matches, Follows, Leaves, HasForm, Departs}
 use Rattle.step_text.specs.declared.machine.State.{State}
 use Rattle.step_text.specs.declared.machine.State.TheVariants.{Start}
 use Rattle.step_text.specs.Machine.{step_of, accepted}
@@ -192,105 +190,3 @@ one_next s from End End p q = refl
 
 pub one_got : (s : List ℕ) (from : ℕ) (t u : Token) → IsNext s from (Got t) → IsNext s from (Got u) → t ≡ u
 one_got s from t u p q = one_token s t u (one_gap s from t.from u.from p.0 q.0) p.1 q.1 p.2 q.2
-
--- what follows a matched front of a part: in the part a token, and here the same one
-abbrev Goes : List ℕ → List ℕ → ℕ → ℕ → Token → Token → Type 0
-Goes part s j to f t = IsNext part j (Got f) × IsNext s to (Got t) × (is_same part f s t ≡ true)
-
--- here the text leaves the part
-abbrev LeavesAt : List ℕ → List ℕ → ℕ → ℕ → ℕ → Type 0
-LeavesAt part s j to place =
-    (f : Token) × (step : TokenStep) × IsNext part j (Got f) × IsNext s to step × (is_as_in part f s step ≡ false) × (place ≡ place_of s step)
-
-goes_or_leaves : (part s : List ℕ) (j to : ℕ) (f t : Token) (place : ℕ) → Goes part s j to f t → LeavesAt part s j to place → ⊥
-goes_or_leaves part s j to f t place p q =
-    let wanted : f ≡ q.0 = one_got part j f q.0 p.0 q.2 in
-    let found : Got t ≡ q.1 = one_next s to (Got t) q.1 p.1 q.3 in
-    let is : is_as_in part f s (Got t) ≡ false = subst (λ x. is_as_in part x s (Got t) ≡ false) (sym wanted) (subst (λ x. is_as_in part q.0 s x ≡ false) (sym found) q.4) in
-    true≢false (sym p.2 ∙ is)
-
-leaves_once : (part s : List ℕ) (j to p q : ℕ) → LeavesAt part s j to p → LeavesAt part s j to q → p ≡ q
-leaves_once part s j to p q h k = h.5 ∙ ap (place_of s) (one_next s to h.1 k.1 h.3 k.3) ∙ sym k.5
-
--- two matched fronts of a part, whose ends P and Q say more of, where a token more in both texts says otherwise
-one_walk : (part s : List ℕ) (P Q : ℕ → ℕ → Type 0) (R : Type 0)
-    → ((j to : ℕ) → P j to → Q j to → R)
-    → ((j to : ℕ) (f t : Token) → Goes part s j to f t → P j to → R)
-    → ((j to : ℕ) (f t : Token) → Goes part s j to f t → Q j to → R)
-    → (m n i at j to j' to' : ℕ) → Matches m part i j s at to → P j to → Matches n part i j' s at to' → Q j' to' → R
-one_walk part s P Q R both first second zero zero i at j to j' to' p at_p q at_q =
-    both i at (subst (λ x. P x at) (sym p.0) (subst (λ x. P j x) (sym p.1) at_p)) (subst (λ x. Q x at) (sym q.0) (subst (λ x. Q j' x) (sym q.1) at_q))
-one_walk part s P Q R both first second zero (suc n) i at j to j' to' p at_p q at_q =
-    first i at q.0 q.1 (q.2, q.3, q.4) (subst (λ x. P x at) (sym p.0) (subst (λ x. P j x) (sym p.1) at_p))
-one_walk part s P Q R both first second (suc m) zero i at j to j' to' p at_p q at_q =
-    second i at p.0 p.1 (p.2, p.3, p.4) (subst (λ x. Q x at) (sym q.0) (subst (λ x. Q j' x) (sym q.1) at_q))
-one_walk part s P Q R both first second (suc m) (suc n) i at j to j' to' p at_p q at_q =
-    let wanted : q.0 ≡ p.0 = one_got part i q.0 p.0 q.2 p.2 in
-    let found : q.1 ≡ p.1 = one_got s at q.1 p.1 q.3 p.3 in
-    let rest : Matches n part p.0.end j' s p.1.end to' =
-    subst (λ (x : Token). Matches n part x.end j' s p.1.end to') wanted (subst (λ (x : Token). Matches n part q.0.end j' s x.end to') found q.5) in
-    one_walk part s P Q R both first second m n p.0.end p.1.end j to j' to' p.5 at_p rest at_q
-
-no_more : (part s : List ℕ) (to_end j to : ℕ) (f t : Token) → Goes part s j to f t → IsNext part j End × (to ≡ to_end) → ⊥
-no_more part s to_end j to f t h k = got_end part j f h.0 k.0
-
-pub one_follow : (part s : List ℕ) (at p q : ℕ) → Follows part s at p → Follows part s at q → p ≡ q
-one_follow part s at p q h k =
-    one_walk part s (λ j to. IsNext part j End × (to ≡ p)) (λ j to. IsNext part j End × (to ≡ q)) (p ≡ q)
-    (λ j to a b. sym a.1 ∙ b.1)
-    (λ j to f t g a. absurd (no_more part s p j to f t g a))
-    (λ j to f t g a. absurd (no_more part s q j to f t g a))
-    h.0 k.0 0 at h.1 p k.1 q h.2 (h.3, refl) k.2 (k.3, refl)
-
-pub one_leave : (part s : List ℕ) (at p q : ℕ) → Leaves part s at p → Leaves part s at q → p ≡ q
-one_leave part s at p q h k =
-    one_walk part s (λ j to. LeavesAt part s j to p) (λ j to. LeavesAt part s j to q) (p ≡ q)
-    (λ j to a b. leaves_once part s j to p q a b)
-    (λ j to f t g a. absurd (goes_or_leaves part s j to f t p g a))
-    (λ j to f t g a. absurd (goes_or_leaves part s j to f t q g a))
-    h.0 k.0 0 at h.1 h.2 k.1 k.2 h.5 (h.3, h.4, h.6, h.7, h.8, h.9) k.5 (k.3, k.4, k.6, k.7, k.8, k.9)
-
-pub follows_or_leaves : (part s : List ℕ) (at p q : ℕ) → Follows part s at p → Leaves part s at q → ⊥
-follows_or_leaves part s at p q h k =
-    one_walk part s (λ j to. IsNext part j End × (to ≡ p)) (λ j to. LeavesAt part s j to q) ⊥
-    (λ j to a b. got_end part j b.0 b.2 a.0)
-    (λ j to f t g a. no_more part s p j to f t g a)
-    (λ j to f t g a. goes_or_leaves part s j to f t q g a)
-    h.0 k.0 0 at h.1 p k.1 k.2 h.2 (h.3, refl) k.5 (k.3, k.4, k.6, k.7, k.8, k.9)
-
-name_or_none : (s : List ℕ) (at : ℕ) (t : Token) (step : TokenStep) → IsNext s at (Got t) → is_name t.kind ≡ true → IsNext s at step → is_name_step step ≡ false → ⊥
-name_or_none s at t step p is q none = true≢false (sym is ∙ ap is_name_step (one_next s at (Got t) step p q) ∙ none)
-
--- a text that has a form has one list of names
-pub one_form : (form : List Piece) (s : List ℕ) (at : ℕ) (xs ys : List Span) → HasForm form s at xs → HasForm form s at ys → xs ≡ ys
-one_form [] s at xs ys p q = p.0 ∙ sym q.0
-one_form (Fixed part ∷ form) s at xs ys p q =
-    one_form form s p.0 xs ys p.2 (subst (λ x. HasForm form s x ys) (one_follow part s at q.0 p.0 q.1 p.1) q.2)
-one_form (AnyName ∷ form) s at xs ys p q =
-    let same_token : q.0 ≡ p.0 = one_got s at q.0 p.0 q.2 p.2 in
-    let rest : p.1 ≡ q.1 = one_form form s p.0.end p.1 q.1 p.5 (subst (λ (x : Token). HasForm form s x.end q.1) same_token q.5) in
-    cc
-
--- a text departs from a form at one place
-pub one_departure : (form : List Piece) (s : List ℕ) (at p q : ℕ) → Departs form s at p → Departs form s at q → p ≡ q
-one_departure [] s at p q h k = h.3 ∙ ap (place_of s) (one_next s at h.0 k.0 h.1 k.1) ∙ sym k.3
-one_departure (Fixed part ∷ form) s at p q (inl h) (inl k) = one_leave part s at p q h k
-one_departure (Fixed part ∷ form) s at p q (inl h) (inr k) = absurd (follows_or_leaves part s at k.0 p k.1 h)
-one_departure (Fixed part ∷ form) s at p q (inr h) (inl k) = absurd (follows_or_leaves part s at h.0 q h.1 k)
-one_departure (Fixed part ∷ form) s at p q (inr h) (inr k) =
-    one_departure form s h.0 p q h.2 (subst (λ x. Departs form s x q) (one_follow part s at k.0 h.0 k.1 h.1) k.2)
-one_departure (AnyName ∷ form) s at p q (inl h) (inl k) = h.3 ∙ ap (place_of s) (one_next s at h.0 k.0 h.1 k.1) ∙ sym k.3
-one_departure (AnyName ∷ form) s at p q (inl h) (inr k) = absurd (name_or_none s at k.0 h.0 k.1 k.2 h.1 h.2)
-one_departure (AnyName ∷ form) s at p q (inr h) (inl k) = absurd (name_or_none s at h.0 k.0 h.1 h.2 k.1 k.2)
-one_departure (AnyName ∷ form) s at p q (inr h) (inr k) =
-    one_departure form s h.0.end p q h.3 (subst (λ (x : Token). Departs form s x.end q) (one_got s at k.0 h.0 k.1 h.1) k.3)
-
--- and a text that departs from a form does not have it
-pub no_both_forms : (form : List Piece) (s : List ℕ) (at : ℕ) (xs : List Span) (p : ℕ) → HasForm form s at xs → Departs form s at p → ⊥
-no_both_forms [] s at xs p h k = k.2 (one_next s at k.0 End k.1 h.1)
-no_both_forms (Fixed part ∷ form) s at xs p h (inl k) = follows_or_leaves part s at h.0 p h.1 k
-no_both_forms (Fixed part ∷ form) s at xs p h (inr k) =
-    no_both_forms form s h.0 xs p h.2 (subst (λ x. Departs form s x p) (one_follow part s at k.0 h.0 k.1 h.1) k.2)
-no_both_forms (AnyName ∷ form) s at xs p h (inl k) = name_or_none s at h.0 k.0 h.2 h.3 k.1 k.2
-no_both_forms (AnyName ∷ form) s at xs p h (inr k) =
-    no_both_forms form s h.0.end h.1 p h.5 (subst (λ (x : Token). Departs form s x.end p) (one_got s at k.0 h.0 k.1 h.2) k.3)
