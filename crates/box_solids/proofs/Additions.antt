@@ -6,7 +6,7 @@ use Rattle.std.proofs.lemmas.List.Elements.{Contains-append_left, Contains-appen
 use Rattle.spec_space.specs.declared.Plane.{Plane}
 use Rattle.plane_core.specs.Planes.{IsReductionOf}
 use Rattle.plane_core.specs.declared.numbers.Plane.{Plane as BookPlane}
-use Rattle.spec_solid.specs.Solids.{Operator}
+use Rattle.spec_solid.specs.declared.BoolOp.{BoolOp}
 use Rattle.box_solids.specs.Trees.{Tree, Joined, planes_of}
 use Rattle.box_solids.specs.Books.{IsKept, HasAdded}
 
@@ -122,6 +122,6 @@ pub added_more : (old book new : List BookPlane) (ks : List Plane) (i : ℕ) (d 
 added_more old book new ks i d h p q = subst (λ ls. HasAdded old ls new) (sym (take_more ks i d h)) (added_both old book new (take i ks) (get_or ks i d ∷ []) p q)
 
 -- the planes of both parts of a tree were added
-pub added_joined : (a b c : List BookPlane) (operator : Operator) (first second whole : Tree) → whole ≡ Joined operator first second
+pub added_joined : (a b c : List BookPlane) (operator : BoolOp) (first second whole : Tree) → whole ≡ Joined operator first second
     → HasAdded a (planes_of first) b → HasAdded b (planes_of second) c → HasAdded a (planes_of whole) c
 added_joined a b c operator first second whole e p q = subst (λ s. HasAdded a (planes_of s) c) (sym e) (added_both a b c (planes_of first) (planes_of second) p q)

@@ -5,7 +5,9 @@ use Rattle.std.proofs.lemmas.Int.{ints}
 use Rattle.spec_space.specs.declared.Plane.{Plane}
 use Rattle.spec_space.specs.declared.Point.{Point}
 use Rattle.spec_space.specs.Points.{IsPoint, value}
-use Rattle.spec_solid.specs.Solids.{Operator, Union, Intersection, Difference, truth, is_meant}
+use Rattle.spec_solid.specs.declared.BoolOp.{BoolOp}
+use Rattle.spec_solid.specs.declared.BoolOp.TheVariants.{Union, Intersection, Difference}
+use Rattle.spec_solid.specs.Solids.{truth, is_meant}
 use Rattle.spec_solid.specs.Planes.{IsAlone, front_of, back_of}
 use Rattle.plane_core.specs.Books.{x_plane, y_plane, z_plane}
 use Rattle.plane_core.specs.Views.{plane_of}
@@ -22,7 +24,7 @@ never : (s : Bool) → (s && false) ≡ false
 never true = refl
 never false = refl
 
-neither : (operator : Operator) → truth operator false false ≡ false
+neither : (operator : BoolOp) → truth operator false false ≡ false
 neither Union = refl
 neither Intersection = refl
 neither Difference = refl

@@ -5,7 +5,8 @@ use Rattle.std.specs.List.{flat_map}
 use Rattle.spec_space.specs.declared.Plane.{Plane}
 use Rattle.spec_space.specs.declared.Point.{Point}
 use Rattle.spec_space.specs.Points.{value}
-use Rattle.spec_solid.specs.Solids.{Operator, Solid, Shell, Combined, Body, truth}
+use Rattle.spec_solid.specs.declared.BoolOp.{BoolOp}
+use Rattle.spec_solid.specs.Solids.{Solid, Shell, Combined, Body, truth}
 use Rattle.spec_solid.specs.Extrusions.{face_triangles}
 use Rattle.spec_solid.specs.Planes.{upright_plane, IsTimes}
 use Rattle.plane_core.specs.Books.{x_plane, y_plane, z_plane}
@@ -15,7 +16,7 @@ use Rattle.grid_boxes.specs.declared.bounds.Bounds.{Bounds}
 -- a box, or two trees and an operator that combines them
 pub data Tree : Type 0 where
   Leaf : Bounds → Tree
-  Joined : Operator → Tree → Tree → Tree
+  Joined : BoolOp → Tree → Tree → Tree
 
 -- a box is the shell of its triangles
 abbrev pub solid_of : Tree → Solid

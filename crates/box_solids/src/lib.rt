@@ -10,4 +10,4 @@ mod walls;
 
 pub use planes::{add_planes, plane_book};
 pub use sides::told;
-pub use solids::{BoxSolid, Operator};
+pub use solids::BoxSolid;

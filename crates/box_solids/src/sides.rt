@@ -7,13 +7,14 @@ ghost use Rattle.spec_solid.specs.Planes.{IsAlone, front_of, back_of};
 ghost use Rattle.plane_core.specs.Views.{plane_of};
 ghost use Rattle.plane_core.specs.declared.numbers.Plane.{Plane as BookPlane};
 ghost use Rattle.box_solids.specs.Trees.{Leaf, body_of, is_plane, is_in_front_across, told_by};
-ghost use Rattle.box_solids.specs.Views.{operator_of, tree_of};
+ghost use Rattle.box_solids.specs.Views.{tree_of};
 ghost use Rattle.box_solids.specs.Books.{HasNumber, HasWalls, AreFlagsOf, AreSidesOf};
 
-use crate::solids::{BoxSolid, Operator};
+use crate::solids::BoxSolid;
 use crate::walls::{has_walls, x_plane, y_plane, z_plane};
 use grid_boxes::Bounds;
 use plane_core::{PlaneBook, PlaneId};
+use spec_solid::BoolOp;
 use spec_space::Plane;
 
 /// Whether a plane of a book has the four numbers.
@@ -84,12 +85,13 @@ fn told_box(book: &PlaneBook, bounds: &Bounds, in_front: &[bool]) -> bool
 }
 
 /// Whether the operator's solid has a point, by whether the two that it combines have it.
-fn truth(operator: Operator, first: bool, second: bool) -> bool
-    ensures { result ≡ truth (operator_of operator) first second }
+fn truth(operator: BoolOp, first: bool, second: bool) -> bool
+    ensures { result ≡ truth operator first second }
 {
     match operator {
-        Operator::Union => first || second,
-        Operator::Difference => first && !second,
+        BoolOp::Union => first || second,
+        BoolOp::Intersection => first && second,
+        BoolOp::Difference => first && !second,
     }
 }
 

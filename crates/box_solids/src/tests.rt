@@ -1,6 +1,7 @@
-use crate::{BoxSolid, Operator, plane_book, told};
+use crate::{BoxSolid, plane_book, told};
 use grid_boxes::Bounds;
 use plane_core::PlaneId;
+use spec_solid::BoolOp;
 use spec_space::Vector;
 use sqlite_items::Boxed;
 use std::alloc::{AllocError, Global};
@@ -27,7 +28,7 @@ fn cuboid(low: (i8, i8, i8), high: (i8, i8, i8)) -> Option<BoxSolid> {
 
 fn combine(
     alloc: Global,
-    operator: Operator,
+    operator: BoolOp,
     first: BoxSolid,
     second: BoxSolid,
 ) -> Result<BoxSolid, AllocError> {
@@ -39,7 +40,7 @@ fn combine(
 }
 
 /// A box of 4 steps with a shaft through it, or with a pillar in it.
-fn example(alloc: Global, operator: Operator) -> Result<Option<BoxSolid>, AllocError> {
+fn example(alloc: Global, operator: BoolOp) -> Result<Option<BoxSolid>, AllocError> {
     let Some(whole) = cuboid((0, 0, 0), (4, 4, 4)) else {
         return Ok(None);
     };
@@ -73,7 +74,7 @@ fn meaning(alloc: Global, solid: &BoxSolid, in_front: &[bool]) -> Result<Option<
 #[test]
 fn numbers_each_plane_once(rt: HostRuntime) -> Result<(), Fail> {
     let alloc = rt.alloc();
-    let solid = example(alloc, Operator::Difference)?.expect(&rt, "two boxes");
+    let solid = example(alloc, BoolOp::Difference)?.expect(&rt, "two boxes");
     // The two boxes share the planes z = 0, z = 4 and the diagonal x = y.
     assert_eq!(rt;
         numbers(alloc, &solid)?,
@@ -113,8 +114,8 @@ fn numbers_each_plane_once(rt: HostRuntime) -> Result<(), Fail> {
 #[test]
 fn tells_the_meaning_by_the_sides(rt: HostRuntime) -> Result<(), Fail> {
     let alloc = rt.alloc();
-    let cut = example(alloc, Operator::Difference)?.expect(&rt, "two boxes");
-    let joined = example(alloc, Operator::Union)?.expect(&rt, "two boxes");
+    let cut = example(alloc, BoolOp::Difference)?.expect(&rt, "two boxes");
+    let joined = example(alloc, BoolOp::Union)?.expect(&rt, "two boxes");
     let (t, f) = (true, false);
     for (sides, in_cut, in_joined) in [
         // The point (3, 5/2, 1), beside the shaft.
