@@ -1,28 +1,21 @@
 -- What the values of this crate stand for in the definitions of solids.
 use Rattle.std.specs.Prelude.{map}
 use Rattle.plain_meaning.specs.declared.triangles.Triangle as plain_triangle
-use Rattle.plain_meaning.specs.declared.solids.Operator as plain_operator
-use Rattle.plain_meaning.specs.declared.solids.Operator.TheVariants as plain
 use Rattle.plain_meaning.specs.declared.solids.Body as plain_body
 use Rattle.plain_meaning.specs.declared.solids.Solid as plain_solid
 use Rattle.plain_meaning.specs.declared.solids.Solid.TheOpen.{Solid-F}
 use Rattle.plain_meaning.specs.declared.solids.Solid.TheOpen as layer
 use Rattle.plain_meaning.specs.declared.solids.Solid.TheFolds.{fold-Solid}
 use Rattle.spec_solid.specs.Triangles.{Triangle}
-use Rattle.spec_solid.specs.Solids.{Operator, Union, Intersection, Difference, Solid, Shell, HalfSpace, Combined, Body}
+use Rattle.spec_solid.specs.Solids.{Solid, Shell, HalfSpace, Combined, Body}
 
 abbrev pub triangle_of : plain_triangle.Triangle → Triangle
 triangle_of t = record { a = t.a; b = t.b; c = t.c }
 
-abbrev pub operator_of : plain_operator.Operator → Operator
-operator_of plain.Union = Union
-operator_of plain.Intersection = Intersection
-operator_of plain.Difference = Difference
-
 abbrev pub layer_of : Solid-F Solid → Solid
 layer_of (layer.Shell triangles) = Shell (map triangle_of triangles)
 layer_of (layer.HalfSpace plane in_front) = HalfSpace plane in_front
-layer_of (layer.Combined operator first second) = Combined (operator_of operator) first second
+layer_of (layer.Combined operator first second) = Combined operator first second
 
 abbrev pub solid_of : plain_solid.Solid → Solid
 solid_of = fold-Solid Solid layer_of

@@ -6,7 +6,7 @@ mod solids;
 mod triangles;
 mod vectors;
 
-pub use solids::{Body, Operator, Solid, is_inside, is_meant};
+pub use solids::{Body, Solid, is_inside, is_meant};
 pub use triangles::{Triangle, is_pierced};
 
 #[cfg(test)]

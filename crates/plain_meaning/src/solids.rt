@@ -1,21 +1,14 @@
 ghost use Rattle.std.specs.Prelude.{◌≡◌, map, pos, int_lt, All, if◌then◌else◌};
 ghost use Rattle.spec_solid.specs.Solids.{truth, is_inside, is_inside_some, is_meant};
 ghost use Rattle.spec_space.specs.Points.{value};
-ghost use Rattle.plain_meaning.specs.Meanings.{operator_of, solid_of, body_of};
+ghost use Rattle.plain_meaning.specs.Meanings.{solid_of, body_of};
 ghost use Rattle.plain_meaning.specs.Sizes.{IsSmallPoint, IsSmallPlane, IsSmallSolid, IsSmallBody};
 
 use crate::triangles::{Triangle, pierces_oddly};
 use crate::vectors::value;
+use spec_solid::BoolOp;
 use spec_space::{Plane, Point};
 use sqlite_items::{Boxed, Items};
-
-/// The Boolean operators of IFC4.
-#[derive(Clone, Copy, Debug, PartialEq, Eq)]
-pub enum Operator {
-    Union,
-    Intersection,
-    Difference,
-}
 
 /// A solid, in whole grid steps.
 #[derive(Debug, Drop)]
@@ -29,7 +22,7 @@ pub enum Solid {
     },
     /// What an operator makes of two solids.
     Combined {
-        operator: Operator,
+        operator: BoolOp,
         first: Boxed<Solid>,
         second: Boxed<Solid>,
     },
@@ -43,13 +36,13 @@ pub struct Body {
 }
 
 /// Whether the operator's solid has a point, by whether the two that it combines have it.
-fn truth(operator: Operator, first: bool, second: bool) -> bool
-    ensures { result ≡ truth (operator_of operator) first second }
+fn truth(operator: BoolOp, first: bool, second: bool) -> bool
+    ensures { result ≡ truth operator first second }
 {
     match operator {
-        Operator::Union => first || second,
-        Operator::Intersection => first && second,
-        Operator::Difference => first && !second,
+        BoolOp::Union => first || second,
+        BoolOp::Intersection => first && second,
+        BoolOp::Difference => first && !second,
     }
 }
 

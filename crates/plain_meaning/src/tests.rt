@@ -2,7 +2,8 @@ ghost use Rattle.std.specs.Prelude.{◌^◌, map, All, IfOk, OnOk};
 ghost use Rattle.plain_meaning.specs.Meanings.{triangle_of, solid_of};
 ghost use Rattle.plain_meaning.specs.Sizes.{IsWithin, IsSmallPoint, IsSmallTriangle, IsSmallSolid};
 
-use crate::{Body, Operator, Solid, Triangle, is_inside, is_meant, is_pierced};
+use crate::{Body, Solid, Triangle, is_inside, is_meant, is_pierced};
+use spec_solid::BoolOp;
 use spec_space::{Plane, Point, Vector};
 use sqlite_items::{Boxed, Items};
 use std::alloc::{AllocError, Global};
@@ -89,7 +90,7 @@ fn cube(alloc: Global, low: i8, high: i8) -> Result<Solid, AllocError>
 
 fn combined(
     alloc: Global,
-    operator: Operator,
+    operator: BoolOp,
     first: Solid,
     second: Solid,
 ) -> Result<Solid, AllocError>
@@ -204,9 +205,9 @@ fn decides_inside_of_a_half_space(rt: HostRuntime) {
 fn combines_two_cubes(rt: HostRuntime) -> Result<(), Fail> {
     let alloc = rt.alloc();
     for (operator, want) in [
-        (Operator::Union, [true, true, true, false]),
-        (Operator::Intersection, [false, true, false, false]),
-        (Operator::Difference, [true, false, false, false]),
+        (BoolOp::Union, [true, true, true, false]),
+        (BoolOp::Intersection, [false, true, false, false]),
+        (BoolOp::Difference, [true, false, false, false]),
     ] {
         let first = cube(alloc, 0, 2)?;
         let second = cube(alloc, 1, 3)?;

@@ -5,7 +5,7 @@ use Rattle.box_solids.specs.Trees.{is_between_walls}
 use Rattle.box_solids.specs.Books.{HasNumber}
 use Rattle.box_solids.proofs.Meaning.{three_same}
 use Rattle.box_solids.proofs.Searches.{has_six, between_same}
-use Rattle.box_solids.proofs.sides.told_box.Goals as goal
+use Rattle.box_solids.proofs.sides.is_in_box.Goals as goal
 
 pub is_between-in_y-requires-clause-low : goal.is_between-in_y-requires-clause-low
 is_between-in_y-requires-clause-low c =
