@@ -1,5 +1,5 @@
 -- An input is one thing: a file that is converted, by its one DATA section, or one that is refused for one reason.
-use Rattle.std.proofs.Common.{◌≡◌, ℕ, ◌<◌, ◌≤◌, List, length, Ok, Err, ◌⊎◌, inl, inr, refl, sym, ◌∙◌, ap, subst, arith}
+use Rattle.std.proofs.Common.{◌≡◌, ℕ, ◌<◌, ◌≤◌, List, length, Result, Ok, Err, ◌⊎◌, inl, inr, refl, sym, ◌∙◌, ap, subst, arith}
 use Rattle.spec_step.specs.declared.tree.Instance.{Instance}
 use Rattle.spec_step.specs.declared.fault.StepFault.{StepFault}
 use Rattle.spec_step.specs.declared.fault.StepFault.TheVariants as step
@@ -13,7 +13,7 @@ use Rattle.spec_run.specs.Inputs.{most_bytes, IsFileWith, IsInput, IsNoFile, Lac
 use Rattle.step_text.proofs.OneAnswer.{one_file, one_cause, no_cause}
 
 same_section : (s t : DataSection) → s.text ≡ t.text → s.instances ≡ t.instances → s ≡ t
-same_section s t p q = cc
+same_section s t p q = λ i. record { text = p i; instances = q i }
 
 -- a file has one DATA section
 pub one_section : (given : List ℕ) (s t : DataSection) → IsFileWith given s → IsFileWith given t → s ≡ t
@@ -51,11 +51,20 @@ kind_of given NoLengthUnit h = no_unit unit.NoLengthUnit h
 too_long : (n : ℕ) → n ≤ most_bytes → most_bytes < n → ⊥
 too_long n p q = omega arith
 
+abbrev read : Result (Unit {0}) UnitFault
+read = Ok tt
+
+abbrev failure : UnitFault → Result (Unit {0}) UnitFault
+failure why = Err why
+
+same_failure : (why other : UnitFault) → failure why ≡ failure other → why ≡ other
+same_failure why other e = cc
+
+no_failure : (why : UnitFault) → read ≡ failure why → ⊥
+no_failure why e = cc
+
 one_unit : (given : List ℕ) (why other : UnitFault) → LacksUnit given why → LacksUnit given other → why ≡ other
-one_unit given why other h k = err_same why other (sym h.unit ∙ ap length_unit (one_section given h.section k.section h.file k.file) ∙ k.unit)
-  where
-    err_same : (a b : UnitFault) → Err {A = Unit {0}} a ≡ Err b → a ≡ b
-    err_same a b e = cc
+one_unit given why other h k = same_failure why other (sym h.unit ∙ ap length_unit (one_section given h.section k.section h.file k.file) ∙ k.unit)
 
 unit_or_file : (given : List ℕ) (why : UnitFault) (other : StepFault) → LacksUnit given why → IsNoFile given other → ⊥
 unit_or_file given why other h k = no_cause given h.file.head h.section.instances other h.file.accepted k.cause
@@ -79,10 +88,7 @@ no_kind : (given : List ℕ) (section : DataSection) (why : FileFault) → IsInp
 no_kind given section _ h (large k) = too_long (length given) h.file.small k
 no_kind given section _ h (no_file why k) = no_cause given h.file.head section.instances why h.file.accepted k.cause
 no_kind given section _ h (no_unit why k) =
-    ok_or_err why (sym h.unit ∙ ap length_unit (one_section given section k.section h.file k.file) ∙ k.unit)
-  where
-    ok_or_err : (a : UnitFault) → Ok {E = UnitFault} tt ≡ Err a → ⊥
-    ok_or_err a e = cc
+    no_failure why (sym h.unit ∙ ap length_unit (one_section given section k.section h.file k.file) ∙ k.unit)
 
 -- and for none where it is converted
 pub no_fault : (given : List ℕ) (section : DataSection) (why : FileFault) → IsInput given section → IsFaultOf given why → ⊥

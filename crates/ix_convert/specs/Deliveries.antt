@@ -24,21 +24,21 @@ pub record PutsFront (sink sink' : Known) (text : List ℕ) : Type 0 where
 -- the page and the report are put whole, and the status is the one that is due
 pub record IsWhole (due : Status) (page report : List ℕ) (out out' rep rep' : Known) (result : Status) : Type 0 where
   pub status : result ≡ due
-  pub out : PutsWhole out out' (page_for due page)
-  pub rep : PutsWhole rep rep' report
+  pub page_put : PutsWhole out out' (page_for due page)
+  pub reported : PutsWhole rep rep' report
 
 -- the output failed in the page, and nothing was reported
 pub record StopsInPage (due : Status) (page : List ℕ) (out out' rep rep' : Known) (result : Status) : Type 0 where
   pub status : result ≡ WriteFault
-  pub page : has_page due ≡ true
-  pub out : PutsFront out out' page
-  pub rep : rep' ≡ rep
+  pub paged : has_page due ≡ true
+  pub page_cut : PutsFront out out' page
+  pub unreported : rep' ≡ rep
 
 -- the report failed; the page is put whole, if there is one
 pub record StopsInReport (due : Status) (page report : List ℕ) (out out' rep rep' : Known) (result : Status) : Type 0 where
   pub status : result ≡ WriteFault
-  pub out : PutsWhole out out' (page_for due page)
-  pub rep : PutsFront rep rep' report
+  pub page_put : PutsWhole out out' (page_for due page)
+  pub report_cut : PutsFront rep rep' report
 
 -- the page is put to the output, and then the report
 abbrev pub IsDelivered : Status → List ℕ → List ℕ → Known → Known → Known → Known → Status → Type 0

@@ -7,7 +7,7 @@ use Rattle.spec_page.specs.Items.{Item, Printed, Skipped, Refused}
 use Rattle.spec_headline.specs.Headline.{IsPrintOf}
 use Rattle.spec_table.specs.Sections.{DataSection}
 use Rattle.spec_entity.specs.Reads.{Read}
-use Rattle.spec_entity.specs.Expressions.{Expression}
+use Rattle.spec_expression.specs.Expressions.{Expression}
 use Rattle.spec_entity.specs.Elements.{element_body}
 use Rattle.spec_round.specs.Rounding.{round_body}
 
