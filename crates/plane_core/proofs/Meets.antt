@@ -4,7 +4,7 @@ use Rattle.std.proofs.lemmas.Int.{ints}
 use Rattle.integer_laws.proofs.Cramer as C
 use Rattle.spec_space.specs.declared.Point.{Point}
 use Rattle.spec_space.specs.declared.Plane.{Plane as AnyPlane}
-use Rattle.spec_space.specs.Points.{IsPoint, value}
+use Rattle.spec_space.specs.Points.{value}
 use Rattle.plane_core.specs.Views.{plane_of}
 use Rattle.plane_core.specs.Planes.{IsOnlyPointOf, IsMultipleOf}
 use Rattle.plane_core.specs.declared.numbers.Plane.{Plane}
