@@ -74,20 +74,17 @@ fn numbers(alloc: Global, solids: &[BoxSolid]) -> Result<Vec<(i128, i128, i128, 
     Ok(numbers)
 }
 
-/// The meaning by the sides, or `None` where their number is not that of the planes.
+/// The meaning of the example by the sides, or `None` where their number is not that of the planes.
 #[tactic(auto, using(crate::proofs::BookLaws::planes_have_walls))]
-fn meaning(
-    alloc: Global,
-    solids: &[BoxSolid],
-    in_front: &[bool],
-) -> Result<Option<bool>, AllocError>
-    requires { sum_by box_count (map tree_of solids.now) ≤ 2 ^ 27 }
-{
-    let book = plane_book(alloc, solids)?;
+fn meaning(alloc: Global, operator: BoolOp, in_front: &[bool]) -> Result<Option<bool>, AllocError> {
+    let Some(solid) = example(alloc, operator)? else {
+        return Ok(None);
+    };
+    let book = plane_book(alloc, from_ref(&solid))?;
     if in_front.len() >= book.count() || in_front.len() + 6 != book.count() {
         return Ok(None);
     }
-    Ok(Some(meaning_by_sides(&book, solids, in_front)))
+    Ok(Some(meaning_by_sides(&book, from_ref(&solid), in_front)))
 }
 
 #[test]
@@ -133,9 +130,6 @@ fn numbers_each_plane_once(rt: HostRuntime) -> Result<(), Fail> {
 #[test]
 fn tells_the_meaning_by_the_sides(rt: HostRuntime) -> Result<(), Fail> {
     let alloc = rt.alloc();
-    let cut = example(alloc, BoolOp::Difference)?.expect(&rt, "two boxes");
-    let joined = example(alloc, BoolOp::Union)?.expect(&rt, "two boxes");
-    let shared = example(alloc, BoolOp::Intersection)?.expect(&rt, "two boxes");
     let (t, f) = (true, false);
     for (sides, in_cut, in_joined, in_shared) in [
         // The point (3, 5/2, 1), beside the shaft.
@@ -147,10 +141,18 @@ fn tells_the_meaning_by_the_sides(rt: HostRuntime) -> Result<(), Fail> {
         // The point (3, 5/2, -1), below.
         ([t, f, t, f, f, f, t, t, t, t, t], false, false, false),
     ] {
-        assert_eq!(rt; meaning(alloc, from_ref(&cut), &sides)?, Some(in_cut));
-        assert_eq!(rt; meaning(alloc, from_ref(&joined), &sides)?, Some(in_joined));
-        assert_eq!(rt; meaning(alloc, from_ref(&shared), &sides)?, Some(in_shared));
+        for (operator, want) in [
+            (BoolOp::Difference, in_cut),
+            (BoolOp::Union, in_joined),
+            (BoolOp::Intersection, in_shared),
+        ] {
+            assert_eq!(rt;
+                meaning(alloc, operator, &sides)?,
+                Some(want),
+                "{operator:?}"
+            );
+        }
     }
-    assert_eq!(rt; meaning(alloc, from_ref(&cut), &[t, f])?, None);
+    assert_eq!(rt; meaning(alloc, BoolOp::Difference, &[t, f])?, None);
     Ok(())
 }

@@ -140,7 +140,7 @@ small_vectors [] (v ∷ vs) e s = cc
 small_vectors (c ∷ cs) [] e s = cc
 small_vectors (c ∷ cs) (v ∷ vs) e s = (
   subst (IsWithin (2 ^ 31)) (sym (head_same (vector_of v) (image c) (map vector_of vs) (map image cs) e)) (image_size c s.0),
-  small_vectors cs vs (tail_same (vector_of v) (image c) (map vector_of vs) (map image cs) e) s.1,
+  small_vectors cs vs (tail_same (vector_of v) (image c) (map vector_of vs) (map image cs) e) ss.1,
 )
 
 near : (u v : Vector) → IsWithin (2 ^ 31) u → IsWithin (2 ^ 31) v → IsWithin (2 ^ 37) (minus u v)
@@ -213,10 +213,10 @@ kept_plane body false h g e is = inr (subst (IsPlaneOf body) (sym (ap opposite e
     twice : (h : Plane) → opposite (opposite h) ≡ h
     twice h = λ i. record { a = back h.a i; b = back h.b i; c = back h.c i; d = back h.d i }
 
-module _ (planes : List BookPlane) (body : Body) (of : ArePlanesOf body planes) (m : PrintedMesh) (whole : IsWholeMesh planes body m.mesh)
+module _ (number : ℕ) (planes : List BookPlane) (body : Body) (of : ArePlanesOf body planes) (m : PrintedMesh) (whole : IsWholeMesh planes body m.mesh)
     (printed : ArePrinted m.mesh.corners.items m.printed.items) (six : m.six ≡ within_128_bits (mesh_volume m.printed.items m.mesh.faces.items)) where
   abbrev e : Element
-  e = element_of m
+  e = element_of number m
 
   abbrev corners : List Corner
   corners = m.mesh.corners.items

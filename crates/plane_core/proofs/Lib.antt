@@ -5,3 +5,4 @@ pub mod Signed
 pub mod Reduction
 pub mod Multiples
 pub mod Laws
+pub mod Meets
