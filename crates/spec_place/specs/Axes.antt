@@ -6,14 +6,9 @@ use Rattle.spec_space.specs.declared.Vector.{Vector}
 use Rattle.spec_space.specs.Points.{minus, cross, dot}
 use Rattle.spec_place.specs.declared.fault.PlaceFault.{PlaceFault}
 use Rattle.spec_place.specs.declared.fault.PlaceFault.TheVariants.{Parallel}
+use Rattle.spec_place.specs.declared.transform.Axes.{Axes}
 use Rattle.spec_place.specs.Vectors.{each, times, divided, clamped, one, is_within, along_x, along_y, along_z}
 use Rattle.spec_place.specs.Directions.{unit}
-
--- the directions of three axes
-pub record Axes : Type 0 where
-  pub x : Vector
-  pub y : Vector
-  pub z : Vector
 
 -- what is left of a direction without its part along the axis, in units of 10^-12
 abbrev pub rest : Vector → Vector → Vector
@@ -37,7 +32,7 @@ is_parallel axis None = false
 abbrev pub across : Vector → Vector → Vector
 across u v = each clamped (divided (cross u v) one)
 
--- the axes with z along the axis, and x along what is left of the reference direction
+-- the axes with z along the axis and x along another direction
 abbrev pub axes_along : Vector → Vector → Axes
 axes_along z x = record { x = x; y = across z x; z = z }
 

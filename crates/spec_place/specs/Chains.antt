@@ -1,6 +1,7 @@
 -- Chains of placements (IfcLocalPlacement): lists from the root to the product.
 use Rattle.std.specs.Prelude.{ℕ, List, [], ◌∷◌, map, nat_eq, Ok, if◌then◌else◌}
-use Rattle.spec_place.specs.Transforms.{Transform, identity}
+use Rattle.spec_place.specs.declared.transform.Transform.{Transform}
+use Rattle.spec_place.specs.Transforms.{identity}
 use Rattle.spec_place.specs.Frames.{Placed, next, frame_then, frame_inverse}
 
 -- a frame, then each of a list in turn

@@ -4,7 +4,8 @@ use Rattle.spec_space.specs.declared.Vector.{Vector}
 use Rattle.spec_place.specs.declared.fault.PlaceFault.{PlaceFault}
 use Rattle.spec_place.specs.declared.fault.PlaceFault.TheVariants.{OffsetTooLarge}
 use Rattle.spec_place.specs.Axes.{axes}
-use Rattle.spec_place.specs.Transforms.{Transform, of_columns, composed, with_clamped, inverse, has_offset}
+use Rattle.spec_place.specs.declared.transform.Transform.{Transform}
+use Rattle.spec_place.specs.Transforms.{of_columns, composed, with_clamped, inverse, has_offset}
 
 -- what is placed, or why it has no place
 abbrev pub Placed : Type 0

@@ -7,7 +7,8 @@ use Rattle.spec_place.specs.declared.fault.PlaceFault.{PlaceFault}
 use Rattle.spec_place.specs.declared.half.HalfSpace.{HalfSpace}
 use Rattle.spec_place.specs.Vectors.{divided}
 use Rattle.spec_place.specs.Directions.{direction}
-use Rattle.spec_place.specs.Transforms.{Transform, first_column, second_column, third_column}
+use Rattle.spec_place.specs.declared.transform.Transform.{Transform}
+use Rattle.spec_place.specs.Transforms.{first_column, second_column, third_column}
 use Rattle.spec_place.specs.Frames.{next}
 use Rattle.spec_place.specs.Maps.{turned_to}
 

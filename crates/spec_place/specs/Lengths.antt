@@ -1,6 +1,6 @@
 -- Units of length (IfcSIUnit, IfcConversionBasedUnit), and lengths in nanometres. The rounding and the bounds are rules of
 -- this project.
-use Rattle.std.specs.Prelude.{ℤ, pos, ◌*ℤ◌, ◌^◌, Bool, ◌&&◌, nat_le, int_le, unsigned_abs, Option, Some, None, if◌then◌else◌}
+use Rattle.std.specs.Prelude.{ℤ, pos, ◌*ℤ◌, ◌≤ℤ◌, ◌^◌, Bool, ◌&&◌, nat_le, int_le, unsigned_abs, Option, Some, None, if◌then◌else◌}
 use Rattle.spec_num.specs.Rounding.{round_of}
 use Rattle.spec_place.specs.declared.prefix.Prefix.{Prefix}
 use Rattle.spec_place.specs.declared.prefix.Prefix.TheVariants.{Kilo, Hecto, Deca, Deci, Centi, Milli, Micro}
@@ -23,6 +23,10 @@ nanometres unit v = round_of (v *ℤ unit) (pos (10 ^ 12))
 -- a unit of length has from 1 to 10^12 nanometres
 abbrev pub is_unit : ℤ → Bool
 is_unit k = int_le (pos 1) k && int_le k (pos (10 ^ 12))
+
+pub record IsUnit (k : ℤ) : Type 0 where
+  pub low : pos 1 ≤ℤ k
+  pub high : k ≤ℤ pos (10 ^ 12)
 
 -- the unit of a conversion factor of c units of 10^-12 over another unit, if it is one
 abbrev pub converted : ℤ → ℤ → Option ℤ

@@ -5,8 +5,10 @@ use Rattle.spec_space.specs.declared.Vector.{Vector}
 use Rattle.spec_space.specs.Points.{dot}
 use Rattle.spec_place.specs.declared.fault.PlaceFault.TheVariants.{ScaleOutOfRange}
 use Rattle.spec_place.specs.Vectors.{times, divided, reversed, along_y}
-use Rattle.spec_place.specs.Axes.{Axes, axes}
-use Rattle.spec_place.specs.Transforms.{Transform, of_columns, image, composed, has_entries_within}
+use Rattle.spec_place.specs.declared.transform.Axes.{Axes}
+use Rattle.spec_place.specs.Axes.{axes}
+use Rattle.spec_place.specs.declared.transform.Transform.{Transform}
+use Rattle.spec_place.specs.Transforms.{of_columns, image, composed, has_entries_within}
 use Rattle.spec_place.specs.Frames.{Placed, next, if_near}
 
 -- the map that stands as b within a

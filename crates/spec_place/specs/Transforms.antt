@@ -2,15 +2,9 @@
 use Rattle.std.specs.Prelude.{ℕ, ◌^◌, Bool, ◌&&◌}
 use Rattle.spec_space.specs.declared.Vector.{Vector}
 use Rattle.spec_space.specs.Points.{dot}
+use Rattle.spec_place.specs.declared.transform.Axes.{Axes}
+use Rattle.spec_place.specs.declared.transform.Transform.{Transform}
 use Rattle.spec_place.specs.Vectors.{each, plus, times, divided, reversed, clamped, one, is_within, IsWithin, origin, along_x, along_y, along_z}
-use Rattle.spec_place.specs.Axes.{Axes}
-
--- the rows of a matrix, in units of 10^-9, and an offset, in nanometres
-pub record Transform : Type 0 where
-  pub x : Vector
-  pub y : Vector
-  pub z : Vector
-  pub off : Vector
 
 abbrev pub identity : Transform
 identity = record { x = along_x; y = along_y; z = along_z; off = origin }

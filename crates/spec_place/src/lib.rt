@@ -5,7 +5,9 @@
 mod fault;
 mod half;
 mod prefix;
+mod transform;
 
 pub use fault::PlaceFault;
 pub use half::HalfSpace;
 pub use prefix::Prefix;
+pub use transform::{Axes, Transform};
