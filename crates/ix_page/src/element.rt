@@ -3,7 +3,7 @@ ghost use Rattle.spec_table.specs.Sections.{IsSimple};
 ghost use Rattle.spec_expression.specs.Expressions.{triangles};
 ghost use Rattle.spec_page.specs.Page.{item_lines};
 ghost use Rattle.spec_outcome.specs.Outcomes.{IsItemOf, StandsFor, rounded_outcome};
-ghost use Rattle.spec_round.specs.Rounding.{round_body};
+ghost use Rattle.spec_round.specs.Rounded.{round_body};
 ghost use Rattle.box_expressions.specs.Views.{expression_of};
 ghost use Rattle.std.specs.List.{sum_by};
 ghost use Rattle.ix_page.specs.Made.{item_of};

@@ -6,10 +6,10 @@ use Rattle.spec_page.specs.Element.{Element, world_frame}
 use Rattle.spec_page.specs.Items.{Item, Printed, Skipped, Refused}
 use Rattle.spec_headline.specs.Headline.{IsPrintOf}
 use Rattle.spec_table.specs.Sections.{DataSection}
-use Rattle.spec_entity.specs.Reads.{Read}
+use Rattle.spec_refusal.specs.Reads.{Read}
 use Rattle.spec_expression.specs.Expressions.{Expression}
 use Rattle.spec_entity.specs.Elements.{element_body}
-use Rattle.spec_round.specs.Rounding.{round_body}
+use Rattle.spec_round.specs.Rounded.{round_body}
 
 -- an element without a body; the first refusal of reading, or else of rounding; the element on the grid
 pub data Outcome : Type 0 where
