@@ -3,7 +3,7 @@ ghost use Rattle.spec_num.specs.Decimals.{most_units};
 ghost use Rattle.spec_table.specs.Sections.{IsSimple};
 ghost use Rattle.spec_entity.specs.Reads.{unset, members};
 ghost use Rattle.spec_entity.specs.Units.{length_of, positive};
-ghost use Rattle.step_table.specs.Answers.{lent};
+ghost use Rattle.step_table.specs.Answers.{as_reading};
 ghost use Rattle.box_reader.specs.Lent.{lent_read};
 
 use crate::kinds::refusal_of;

@@ -4,7 +4,7 @@ ghost use Rattle.spec_entity.specs.Units.{says, first_project, length_unit_in, f
 ghost use Rattle.std.specs.List.{find};
 ghost use Rattle.std.specs.Option.{option_copied};
 ghost use Rattle.spec_entity.specs.Reads.{body_has_kind};
-ghost use Rattle.step_table.specs.Answers.{lent_if_set};
+ghost use Rattle.step_table.specs.Answers.{as_reading_if_set};
 
 use crate::kinds::{has_kind, instance_has_kind, is_one_of, named};
 use crate::numbers::members;
@@ -16,7 +16,7 @@ use step_table::Table;
 
 /// Whether an attribute is this enumeration, in letters of any case.
 fn says(reading: Result<Option<&[u8]>, AttrFault>, word: &[u8]) -> bool
-    ensures { result ≡ says word.now (lent_if_set reading.entry) }
+    ensures { result ≡ says word.now (as_reading_if_set reading.entry) }
 {
     match reading {
         Ok(Some(text)) => text.eq_ignore_ascii_case(word),

@@ -1,7 +1,7 @@
 pub mod Spelling
 pub mod Longest
+pub mod Kinds
 pub mod Gaps
-pub mod Form
 pub mod Spans
 pub mod Lexemes
 pub mod Grammar

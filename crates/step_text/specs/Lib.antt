@@ -1,5 +1,3 @@
-pub mod Machine
 pub mod Answers
 pub mod Reading
 pub mod Schemas
-pub mod Printing
