@@ -10,7 +10,8 @@ use Rattle.spec_space.specs.declared.Point.{Point}
 use Rattle.spec_space.specs.declared.Vector.{Vector}
 use Rattle.spec_space.specs.Points.{IsPoint, value}
 use Rattle.spec_solid.specs.Solids.{is_meant}
-use Rattle.spec_solid.specs.Planes.{upright_plane, IsTimes, IsPlaneOf}
+use Rattle.spec_space.specs.Reduced.{IsTimes}
+use Rattle.spec_solid.specs.Planes.{upright_plane, IsPlaneOf}
 use Rattle.integer_laws.proofs.Ring.{var, con, neg, ◌⊕◌, ◌⊗◌, ◌⊖◌, ring}
 use Rattle.integer_laws.proofs.Products.{cancel_zero}
 use Rattle.plane_core.specs.Books.{x_plane, y_plane, z_plane, cube_walls}

@@ -7,7 +7,8 @@ use Rattle.std.proofs.lemmas.List.Elements.{All-nil, All-cons, All-append, All-h
 use Rattle.spec_space.specs.declared.Plane.{Plane}
 use Rattle.spec_space.specs.declared.Vector.{Vector}
 use Rattle.spec_solid.specs.Triangles.{Triangle}
-use Rattle.spec_solid.specs.Planes.{upright_plane, triangle_planes, solid_planes, IsTimes, IsReduced, IsPlaneOf}
+use Rattle.spec_space.specs.Reduced.{IsTimes, IsReduced}
+use Rattle.spec_solid.specs.Planes.{upright_plane, triangle_planes, solid_planes, IsPlaneOf}
 use Rattle.plane_core.specs.Books.{x_plane, y_plane, z_plane}
 use Rattle.plane_core.specs.Planes.{IsReductionOf}
 use Rattle.plane_core.specs.Views.{plane_of}

@@ -5,7 +5,8 @@ use Rattle.std.specs.List.{All, Contains}
 use Rattle.std.proofs.lemmas.Int.{ints}
 use Rattle.std.proofs.lemmas.List.Elements.{All-nil, All-cons, All-append, All-contains, Contains-append_left, Contains-append_right, Contains-append_cases}
 use Rattle.spec_space.specs.declared.Plane.{Plane}
-use Rattle.spec_solid.specs.Planes.{IsReduced, IsPlaneOf}
+use Rattle.spec_space.specs.Reduced.{IsReduced}
+use Rattle.spec_solid.specs.Planes.{IsPlaneOf}
 use Rattle.plane_core.specs.Books.{x_plane, y_plane, z_plane}
 use Rattle.integer_laws.proofs.Ring.{*ℤ_comm}
 use Rattle.integer_laws.proofs.Products.{zero_left, zero_right, size_factor, size_positive}

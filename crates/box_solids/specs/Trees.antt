@@ -8,7 +8,8 @@ use Rattle.spec_space.specs.Points.{value}
 use Rattle.spec_solid.specs.declared.BoolOp.{BoolOp}
 use Rattle.spec_solid.specs.Solids.{Solid, Shell, Combined, Body, truth}
 use Rattle.spec_solid.specs.Extrusions.{face_triangles}
-use Rattle.spec_solid.specs.Planes.{upright_plane, IsTimes}
+use Rattle.spec_space.specs.Reduced.{IsTimes}
+use Rattle.spec_solid.specs.Planes.{upright_plane}
 use Rattle.plane_core.specs.Books.{x_plane, y_plane, z_plane}
 use Rattle.grid_boxes.specs.Boxes.{box_faces}
 use Rattle.grid_boxes.specs.declared.bounds.Bounds.{Bounds}
