@@ -7,8 +7,6 @@ mod lines;
 mod numbers;
 mod page;
 mod refusals;
-#[cfg(test)]
-mod tests;
 
 pub use element::write_element;
 pub use page::{write_end, write_head};
