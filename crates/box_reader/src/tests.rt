@@ -1,5 +1,5 @@
 use super::*;
-use crate::kinds::has_kind;
+use entity_reader::has_kind;
 use ifc_kinds::Kind;
 use std::alloc::{AllocError, Global};
 use std::test::Fail;
@@ -38,7 +38,8 @@ fn edited(alloc: Global, old: &str, new: &str) -> Result<String, AllocError> {
 /// A solid in a line.
 fn solid_text(alloc: Global, solid: &BoxExpression) -> Result<String, AllocError> {
     match solid {
-        BoxExpression::Box { at, low, size } => {
+        BoxExpression::Box { at, placed } => {
+            let PlacedBox { low, size } = placed;
             format!(in alloc;
                 "#{at} from {} {} {} by {} {} {}",
                 low.x, low.y, low.z, size.x, size.y, size.z
