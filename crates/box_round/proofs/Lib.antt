@@ -1,0 +1,3 @@
+pub mod BlockFaces
+pub mod Steps
+pub mod ItemsLeft
