@@ -1,16 +1,15 @@
 -- The items so far on the grid, and those that are left.
-use Rattle.std.proofs.Common.{◌≡◌, ℕ, ◌+◌, ◌*◌, ◌<◌, ◌≤◌, List, [], ◌∷◌, ◌++◌, length, map, drop, get_or, Result, Ok, Err, refl, sym, ap, subst, ◌∙◌, append_assoc, arith}
+use Rattle.std.proofs.Common.{◌≡◌, ℕ, ◌+◌, ◌*◌, ◌<◌, ◌≤◌, List, [], ◌∷◌, ◌++◌, length, map, drop, get_or, Ok, Err, refl, sym, ap, subst, ◌∙◌, append_assoc, arith}
 use Rattle.std.specs.List.{sum_by}
 use Rattle.std.proofs.lemmas.List.{drop_more, drop_all, map-append, append-nil}
 use Rattle.std.proofs.lemmas.List.Sums.{sum_by-cons, sum_by-append}
 use Rattle.spec_solid.specs.Solids.{Solid, Body}
-use Rattle.spec_refusal.specs.declared.Refusal.{Refusal}
 use Rattle.spec_refusal.specs.Reads.{Read, next}
-use Rattle.spec_expression.specs.Expressions.{Expression, triangles}
+use Rattle.spec_expression.specs.Expressions.{triangles}
 use Rattle.spec_round.specs.Rounded.{round_item, round_items, round_body}
 use Rattle.box_expressions.specs.Views.{expression_of}
 use Rattle.box_expressions.specs.declared.solids.BoxExpression.{BoxExpression}
-use Rattle.box_solids.specs.Trees.{Tree, box_count, solid_of, body_of}
+use Rattle.box_solids.specs.Trees.{box_count, solid_of, body_of}
 use Rattle.box_solids.specs.Views.{tree_of}
 use Rattle.box_solids.specs.declared.solids.BoxSolid.{BoxSolid}
 
@@ -74,16 +73,6 @@ next_rounded items i item solids new solid below same value count more rounded =
   where
     grown : (b c d t r l w : ℕ) → d ≡ b + (c + 0) → 24 * c ≡ t → l ≡ t + r → 24 * b + l ≡ w → 24 * d + r ≡ w
     grown b c d t r l w e f g h = omega arith
-
--- the first item that is refused
-pub item_refused : (items : List BoxExpression) (i : ℕ) (item : BoxExpression) (solids : List BoxSolid) (refusal : Refusal) → i < length items → item ≡ get_or items i item
-    → round_item 1000 (expression_of item) ≡ Err refusal → AreRounded items i solids → round_body 1000 (map expression_of items) ≡ Err refusal
-item_refused items i item solids refusal below same refused rounded =
-    let rest = round_items 1000 (map expression_of (drop (i + 1) items)) in
-    ap as_body (rounded.value ∙ ap (behind (map solid_of (map tree_of solids))) (left_value items i item below same ∙ ap (λ r. next r (λ s. next rest (λ ss. Ok (s ∷ ss)))) refused))
-  where
-    as_body : Read (List Solid) → Read Body
-    as_body r = next r (λ ss. Ok (record { items = ss; openings = [] }))
 
 -- all items
 pub all_rounded : (items : List BoxExpression) (i : ℕ) (solids : List BoxSolid) → length items ≤ i → AreRounded items i solids → round_body 1000 (map expression_of items) ≡ Ok (body_of (map tree_of solids))
