@@ -1,13 +1,18 @@
 -- What adding planes to a book makes of it.
-use Rattle.std.proofs.Common.{◌≡◌, ℕ, zero, suc, ◌+◌, ◌<◌, ◌≤◌, List, [], ◌∷◌, ◌++◌, length, slice_get, Option, Some, None, Contains, ◌⊎◌, inl, inr, refl, sym, ap, subst, ◌∙◌, arith, length-append, take, get_or}
-use Rattle.std.proofs.lemmas.List.{take_more}
+use Rattle.std.proofs.Common.{◌≡◌, ℕ, zero, suc, ◌*◌, Bool, true, false, ◌+◌, ◌<◌, ◌≤◌, ◌^◌, List, [], ◌∷◌, ◌++◌, length, slice_get, Option, Some, None, Contains, ◌⊎◌, inl, inr, refl, sym, ap, subst, ◌∙◌, arith, length-append, take, get_or, map, append_assoc}
+use Rattle.std.specs.Prelude.{if◌then◌else◌}
+use Rattle.std.specs.List.{flat_map, sum_by}
+use Rattle.std.proofs.lemmas.List.{take_more, take_all, length-take-le, map-append, append-nil}
+use Rattle.std.proofs.lemmas.List.Folds.{length-flat_map-take}
+use Rattle.std.proofs.lemmas.List.Sums.{sum_by-cons}
 use Rattle.std.proofs.lemmas.Option.{slice_get_within}
 use Rattle.std.proofs.lemmas.List.Elements.{Contains-append_left, Contains-append_right, Contains-append_cases}
 use Rattle.spec_space.specs.declared.Plane.{Plane}
 use Rattle.plane_core.specs.Planes.{IsReductionOf}
 use Rattle.plane_core.specs.declared.numbers.Plane.{Plane as BookPlane}
-use Rattle.spec_solid.specs.Solids.{Operator}
-use Rattle.box_solids.specs.Trees.{Tree, Joined, planes_of}
+use Rattle.spec_solid.specs.declared.BoolOp.{BoolOp}
+use Rattle.grid_boxes.specs.declared.bounds.Bounds.{Bounds}
+use Rattle.box_solids.specs.Trees.{Tree, Leaf, Joined, has_walls, six_walls, diagonal, box_count, planes_of, all_planes}
 use Rattle.box_solids.specs.Books.{IsKept, HasAdded}
 
 pub kept_itself : (ps : List BookPlane) → IsKept ps ps
@@ -122,6 +127,104 @@ pub added_more : (old book new : List BookPlane) (ks : List Plane) (i : ℕ) (d 
 added_more old book new ks i d h p q = subst (λ ls. HasAdded old ls new) (sym (take_more ks i d h)) (added_both old book new (take i ks) (get_or ks i d ∷ []) p q)
 
 -- the planes of both parts of a tree were added
-pub added_joined : (a b c : List BookPlane) (operator : Operator) (first second whole : Tree) → whole ≡ Joined operator first second
+pub added_joined : (a b c : List BookPlane) (operator : BoolOp) (first second whole : Tree) → whole ≡ Joined operator first second
     → HasAdded a (planes_of first) b → HasAdded b (planes_of second) c → HasAdded a (planes_of whole) c
 added_joined a b c operator first second whole e p q = subst (λ s. HasAdded a (planes_of s) c) (sym e) (added_both a b c (planes_of first) (planes_of second) p q)
+
+-- ---- room in a book
+-- for one plane more of a list
+pub room_left : (old book : List BookPlane) (ks : List Plane) (i : ℕ) → i < length ks → length old + length ks ≤ 2 ^ 31 → HasAdded old (take i ks) book → length book + 1 ≤ 2 ^ 31
+room_left old book ks i below room added = enough (length old) (length book) (length ks) i (length (take i ks)) below room added.most (length-take-le i ks (weaker i (length ks) below))
+  where
+    weaker : (i n : ℕ) → i < n → i ≤ n
+    weaker i n h = omega arith
+
+    enough : (o b k i t : ℕ) → i < k → o + k ≤ 2 ^ 31 → b ≤ o + t → t ≡ i → b + 1 ≤ 2 ^ 31
+    enough o b k i t h room most e = omega arith
+
+-- for the planes of a box
+pub room_box : (n : ℕ) (b : Bounds) (ks : List Plane) → has_walls b ≡ true → ks ≡ six_walls b ++ (diagonal b ∷ []) → n + length (planes_of (Leaf b)) ≤ 2 ^ 31 → n + length ks ≤ 2 ^ 31
+room_box n b ks walls e room = subst (λ ls. n + length ls ≤ 2 ^ 31) (sym e) (subst (λ t. n + length (if t then (six_walls b ++ (diagonal b ∷ [])) else []) ≤ 2 ^ 31) walls room)
+
+-- for the planes of the first part of a tree, and then for those of the second
+pub room_first : (n : ℕ) (operator : BoolOp) (first second whole : Tree) → whole ≡ Joined operator first second → n + length (planes_of whole) ≤ 2 ^ 31 → n + length (planes_of first) ≤ 2 ^ 31
+room_first n operator first second whole e room =
+    enough n (length (planes_of first)) (length (planes_of second)) (length (planes_of whole)) room (ap (λ s. length (planes_of s)) e ∙ length-append (planes_of first) (planes_of second))
+  where
+    enough : (n f s w : ℕ) → n + w ≤ 2 ^ 31 → w ≡ f + s → n + f ≤ 2 ^ 31
+    enough n f s w room e = omega arith
+
+pub room_second : (old book : List BookPlane) (operator : BoolOp) (first second whole : Tree) → whole ≡ Joined operator first second → length old + length (planes_of whole) ≤ 2 ^ 31
+    → HasAdded old (planes_of first) book → length book + length (planes_of second) ≤ 2 ^ 31
+room_second old book operator first second whole e room added =
+    enough (length old) (length book) (length (planes_of first)) (length (planes_of second)) (length (planes_of whole)) room added.most
+    (ap (λ s. length (planes_of s)) e ∙ length-append (planes_of first) (planes_of second))
+  where
+    enough : (o b f s w : ℕ) → o + w ≤ 2 ^ 31 → b ≤ o + f → w ≡ f + s → b + s ≤ 2 ^ 31
+    enough o b f s w room most e = omega arith
+
+-- ---- some items
+flat_map-map : {X : Type 0} (f : X → Tree) (xs : List X) → all_planes (map f xs) ≡ flat_map (λ x. planes_of (f x)) xs
+flat_map-map f [] = refl
+flat_map-map f (x ∷ xs) = ap (λ ks. planes_of (f x) ++ ks) (flat_map-map f xs)
+
+all_planes-push : (ss : List Tree) (s : Tree) → all_planes (ss ++ s ∷ []) ≡ all_planes ss ++ planes_of s
+all_planes-push [] s = append-nil (planes_of s)
+all_planes-push (t ∷ ss) s = ap (λ ks. planes_of t ++ ks) (all_planes-push ss s) ∙ sym (append_assoc (planes_of t) (all_planes ss) (planes_of s))
+
+all_planes-next : {X : Type 0} (f : X → Tree) (xs : List X) (i : ℕ) (d : X) → i < length xs → all_planes (map f (take (i + 1) xs)) ≡ all_planes (map f (take i xs)) ++ planes_of (f (get_or xs i d))
+all_planes-next f xs i d below =
+    ap (λ ys. all_planes (map f ys)) (take_more xs i d below) ∙ ap all_planes (map-append f (take i xs) (get_or xs i d ∷ [])) ∙ all_planes-push (map f (take i xs)) (f (get_or xs i d))
+
+-- the planes of one item more were added
+pub added_item : {X : Type 0} (f : X → Tree) (old book new : List BookPlane) (xs : List X) (i : ℕ) (x : X) → i < length xs → x ≡ get_or xs i x
+    → HasAdded old (all_planes (map f (take i xs))) book → HasAdded book (planes_of (f x)) new → HasAdded old (all_planes (map f (take (i + 1) xs))) new
+added_item f old book new xs i x below item p q = subst (λ ls. HasAdded old ls new) (sym (all_planes-next f xs i x below))
+    (added_both old book new (all_planes (map f (take i xs))) (planes_of (f (get_or xs i x))) p (subst (λ y. HasAdded book (planes_of (f y)) new) item q))
+
+pub room_item : {X : Type 0} (f : X → Tree) (old book : List BookPlane) (xs : List X) (i : ℕ) (x : X) → i < length xs → x ≡ get_or xs i x → length old + length (all_planes (map f xs)) ≤ 2 ^ 31
+    → HasAdded old (all_planes (map f (take i xs))) book → length book + length (planes_of (f x)) ≤ 2 ^ 31
+room_item f old book xs i x below item room added =
+    enough (length old) (length book) (length (all_planes (map f (take i xs)))) (length (planes_of (f x))) (length (all_planes (map f xs))) room added.most
+    (subst (λ y. length (all_planes (map f (take i xs))) + length (planes_of (f y)) ≤ length (all_planes (map f xs))) (sym item)
+    (subst (λ ks. length (all_planes (map f (take i xs))) + length (planes_of (f (get_or xs i x))) ≤ length ks) (sym (flat_map-map f xs))
+    (subst (λ ks. length ks + length (planes_of (f (get_or xs i x))) ≤ length (flat_map (λ y. planes_of (f y)) xs)) (sym (flat_map-map f (take i xs)))
+    (length-flat_map-take (λ y. planes_of (f y)) xs i x below))))
+  where
+    enough : (o b t x w : ℕ) → o + w ≤ 2 ^ 31 → b ≤ o + t → t + x ≤ w → b + x ≤ 2 ^ 31
+    enough o b t x w room most e = omega arith
+
+pub all_added : {X : Type 0} (f : X → Tree) (old new : List BookPlane) (xs : List X) (i : ℕ) → length xs ≤ i → HasAdded old (all_planes (map f (take i xs))) new → HasAdded old (all_planes (map f xs)) new
+all_added f old new xs i past added = subst (λ ys. HasAdded old (all_planes (map f ys)) new) (take_all i xs past) added
+
+-- ---- a box has at most seven planes
+pub box_planes_few : (b : Bounds) → length (planes_of (Leaf b)) ≤ 7
+box_planes_few b = by (has_walls b)
+  where
+    by : (t : Bool) → length (if t then (six_walls b ++ (diagonal b ∷ [])) else []) ≤ 7
+    by true = omega arith
+    by false = omega arith
+
+planes_few : (s : Tree) → length (planes_of s) ≤ 7 * box_count s
+planes_few (Leaf b) = box_planes_few b
+planes_few (Joined operator first second) =
+    both (length (planes_of first)) (length (planes_of second)) (length (planes_of first ++ planes_of second)) (box_count first) (box_count second) (planes_few first) (planes_few second)
+    (length-append (planes_of first) (planes_of second))
+  where
+    both : (f s w m n : ℕ) → f ≤ 7 * m → s ≤ 7 * n → w ≡ f + s → w ≤ 7 * (m + n)
+    both f s w m n p q e = omega arith
+
+pub all_planes_few : (ss : List Tree) → length (all_planes ss) ≤ 7 * sum_by box_count ss
+all_planes_few [] = omega arith
+all_planes_few (s ∷ ss) =
+    both (length (planes_of s)) (length (all_planes ss)) (length (planes_of s ++ all_planes ss)) (box_count s) (sum_by box_count ss) (sum_by box_count (s ∷ ss)) (planes_few s) (all_planes_few ss)
+    (length-append (planes_of s) (all_planes ss)) (sum_by-cons box_count s ss)
+  where
+    both : (f s w m n k : ℕ) → f ≤ 7 * m → s ≤ 7 * n → w ≡ f + s → k ≡ m + n → w ≤ 7 * k
+    both f s w m n k p q e d = omega arith
+
+pub room_for_few : (ss : List Tree) (n : ℕ) → n ≡ 6 → sum_by box_count ss ≤ 2 ^ 27 → n + length (all_planes ss) ≤ 2 ^ 31
+room_for_few ss n six few = enough n (length (all_planes ss)) (sum_by box_count ss) six few (all_planes_few ss)
+  where
+    enough : (n l k : ℕ) → n ≡ 6 → k ≤ 2 ^ 27 → l ≤ 7 * k → n + l ≤ 2 ^ 31
+    enough n l k e p q = omega arith

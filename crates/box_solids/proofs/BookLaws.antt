@@ -4,13 +4,14 @@ use Rattle.std.specs.Prelude.{if◌then◌else◌, option_map}
 use Rattle.std.specs.List.{All}
 use Rattle.std.proofs.lemmas.Int.{ints}
 use Rattle.std.proofs.lemmas.Option.{slice_get_within, slice_get-map, get_or_from_slice_get}
-use Rattle.std.proofs.lemmas.List.Elements.{All-nil, All-cons, All-append, All-contains, Contains-append_left, Contains-append_right, Contains-append_cases}
+use Rattle.std.proofs.lemmas.List.Elements.{All-nil, All-cons, All-head, All-tail, All-append, All-contains, Contains-append_left, Contains-append_right, Contains-append_cases}
 use Rattle.spec_space.specs.declared.Plane.{Plane}
 use Rattle.spec_space.specs.declared.Point.{Point}
 use Rattle.spec_space.specs.declared.Vector.{Vector}
 use Rattle.spec_space.specs.Points.{IsPoint, value}
 use Rattle.spec_solid.specs.Solids.{is_meant}
-use Rattle.spec_solid.specs.Planes.{upright_plane, IsTimes, IsPlaneOf}
+use Rattle.spec_space.specs.Reduced.{IsTimes}
+use Rattle.spec_solid.specs.Planes.{upright_plane, IsPlaneOf}
 use Rattle.integer_laws.proofs.Ring.{var, con, neg, ◌⊕◌, ◌⊗◌, ◌⊖◌, ring}
 use Rattle.integer_laws.proofs.Products.{cancel_zero}
 use Rattle.plane_core.specs.Books.{x_plane, y_plane, z_plane, cube_walls}
@@ -20,7 +21,7 @@ use Rattle.plane_core.specs.declared.numbers.Plane.{Plane as BookPlane}
 use Rattle.plane_core.proofs.Laws.{reduced_is_reduced}
 use Rattle.grid_boxes.specs.Ranges.{AreSteps}
 use Rattle.grid_boxes.proofs.Sides.{value_x, value_y, value_z}
-use Rattle.box_solids.specs.Trees.{Tree, Leaf, Joined, body_of, has_walls, six_walls, diagonal, walls_of, planes_of, told_by, is_in_front}
+use Rattle.box_solids.specs.Trees.{Tree, Leaf, Joined, body_of, has_walls, six_walls, diagonal, walls_of, planes_of, all_walls, all_planes, is_inside_some_by, is_in_front}
 use Rattle.box_solids.specs.Books.{ArePlanesOf, HasAdded, HasNumber, HasWalls, AreSidesOf}
 use Rattle.box_solids.proofs.Listed.{planes_of_body, book_planes_of_body}
 use Rattle.box_solids.proofs.Meaning.{meaning_told}
@@ -78,6 +79,10 @@ have_corners (Leaf b) = by (has_walls b)
     by false = All-nil HasCorner
 have_corners (Joined operator first second) = All-append HasCorner (planes_of first) (planes_of second) (have_corners first) (have_corners second)
 
+all_have_corners : (ss : List Tree) → All HasCorner (all_planes ss)
+all_have_corners [] = All-nil HasCorner
+all_have_corners (s ∷ ss) = All-append HasCorner (planes_of s) (all_planes ss) (have_corners s) (all_have_corners ss)
+
 -- ---- no corner is on a wall of the cube
 abbrev HasNoCorner : Plane → Type 0
 HasNoCorner g = (v : Vector) → AreSteps v → value g (at_corner v) ≢ pos 0
@@ -104,9 +109,9 @@ walls_have_none =
     (λ v s e. off_high v.z s.z (sym (value_z (pos 1048577) v.x v.y v.z (pos 1)) ∙ e)) (All-nil HasNoCorner))))))
 
 -- so no plane of an element is a wall of the cube
-no_wall : (s : Tree) (g k : Plane) (m : ℤ) → Contains (planes_of s) k → m ≢ pos 0 → IsTimes m g k → Contains cube_walls g → ⊥
-no_wall s g k m there some times wall =
-    let has = All-contains HasCorner (planes_of s) k (have_corners s) there in
+no_wall : (ss : List Tree) (g k : Plane) (m : ℤ) → Contains (all_planes ss) k → m ≢ pos 0 → IsTimes m g k → Contains cube_walls g → ⊥
+no_wall ss g k m there some times wall =
+    let has = All-contains HasCorner (all_planes ss) k (all_have_corners ss) there in
     All-contains HasNoCorner cube_walls g walls_have_none wall has.corner has.steps
     (cancel_zero m (value g (at_corner has.corner)) some (sym (value_of_times m g k (at_corner has.corner) times) ∙ has.on))
 
@@ -127,22 +132,22 @@ among_walls old n p walls at = at_Contains cube_walls n (plane_of p)
     (ap (λ hs. slice_get hs n) (sym walls) ∙ slice_get-map plane_of old n ∙ ap (option_map plane_of) at)
 
 -- where the listed planes were added to the walls of the cube, the book has the planes of the element from number 6 on
-pub book_of_element : (s : Tree) (old new : List BookPlane) → map plane_of old ≡ cube_walls → length old ≡ 6 → HasAdded old (planes_of s) new → ArePlanesOf (body_of s) new
-book_of_element s old new walls six added = record {
-  given = λ n p past at. (book_planes_of_body s p).1 (added.only n p (subst (λ i. i ≤ n) (sym six) past) at);
-  all = λ h is. found h is (((planes_of_body s h).0 is).1);
+pub book_of_element : (ss : List Tree) (old new : List BookPlane) → map plane_of old ≡ cube_walls → length old ≡ 6 → HasAdded old (all_planes ss) new → ArePlanesOf (body_of ss) new
+book_of_element ss old new walls six added = record {
+  given = λ n p past at. (book_planes_of_body ss p).1 (added.only n p (subst (λ i. i ≤ n) (sym six) past) at);
+  all = λ h is. found h is (((planes_of_body ss h).0 is).1);
 }
   where
-    numbered : (h : Plane) → IsPlaneOf (body_of s) h → (k : Plane) (m : ℤ) → Contains (planes_of s) k → m ≢ pos 0 → IsTimes m h k
+    numbered : (h : Plane) → IsPlaneOf (body_of ss) h → (k : Plane) (m : ℤ) → Contains (all_planes ss) k → m ≢ pos 0 → IsTimes m h k
         → (n : ℕ) × (p : BookPlane) × (slice_get new n ≡ Some p) × IsReductionOf p k.a k.b k.c k.d
         → (n : ℕ) × (p : BookPlane) × (6 ≤ n) × (slice_get new n ≡ Some p) × (plane_of p ≡ h)
     numbered h is k m there some times (n, p, at, r) = elim (order n 6) [
-      | inl below ↦ absurd (no_wall s (plane_of p) k r.factor there r.some r.times
+      | inl below ↦ absurd (no_wall ss (plane_of p) k r.factor there r.some r.times
           (among_walls old n p walls (sym (added.kept.same n (subst (λ i. n < i) (sym six) below)) ∙ at)))
       | inr above ↦ (n, p, above, at, one_reduction (plane_of p) h k r.factor m (reduced_is_reduced p) is.0 r.some some r.times times)
     ]
 
-    found : (h : Plane) → IsPlaneOf (body_of s) h → (k : Plane) × (m : ℤ) × Contains (planes_of s) k × (m ≢ pos 0) × IsTimes m h k
+    found : (h : Plane) → IsPlaneOf (body_of ss) h → (k : Plane) × (m : ℤ) × Contains (all_planes ss) k × (m ≢ pos 0) × IsTimes m h k
         → (n : ℕ) × (p : BookPlane) × (6 ≤ n) × (slice_get new n ≡ Some p) × (plane_of p ≡ h)
     found h is (k, m, there, some, times) = numbered h is k m there some times (added.given k there)
 
@@ -154,20 +159,34 @@ numbered_walls (Joined operator first second) book h = (
   numbered_walls second book (λ k there. h k (Contains-append_right (walls_of first) (walls_of second) k there)),
 )
 
-pub planes_have_walls : (s : Tree) (book : List BookPlane) → ArePlanesOf (body_of s) book → HasWalls book s
-planes_have_walls s book planes = numbered_walls s book (λ k there. planes.all k (wall_is_plane s k there))
+all_numbered_walls : (ss : List Tree) (book : List BookPlane) → ((k : Plane) → Contains (all_walls ss) k → HasNumber book k) → All (HasWalls book) ss
+all_numbered_walls [] book h = All-nil (HasWalls book)
+all_numbered_walls (s ∷ ss) book h = All-cons (HasWalls book) s ss
+    (numbered_walls s book (λ k there. h k (Contains-append_left (walls_of s) (all_walls ss) k there)))
+    (all_numbered_walls ss book (λ k there. h k (Contains-append_right (walls_of s) (all_walls ss) k there)))
+
+pub planes_have_walls : (ss : List Tree) (book : List BookPlane) → ArePlanesOf (body_of ss) book → All (HasWalls book) ss
+planes_have_walls ss book planes = all_numbered_walls ss book (λ k there. planes.all k (wall_is_plane ss k there))
 
 -- each wall of the boxes has a number in a book with all walls
-pub wall_has_number : (s : Tree) (book : List BookPlane) → HasWalls book s → (k : Plane) → Contains (walls_of s) k → HasNumber book k
+wall_has_number : (s : Tree) (book : List BookPlane) → HasWalls book s → (k : Plane) → Contains (walls_of s) k → HasNumber book k
 wall_has_number (Leaf b) book h k there = h k there
 wall_has_number (Joined operator first second) book h k there = elim (Contains-append_cases (walls_of first) (walls_of second) k there) [
   | inl in_first ↦ wall_has_number first book h.0 k in_first
   | inr in_second ↦ wall_has_number second book h.1 k in_second
 ]
 
+some_wall_has_number : (ss : List Tree) (book : List BookPlane) → All (HasWalls book) ss → (k : Plane) → Contains (all_walls ss) k → HasNumber book k
+some_wall_has_number [] book h k (n, below, e) = absurd (omega arith)
+some_wall_has_number (s ∷ ss) book h k there = elim (Contains-append_cases (walls_of s) (all_walls ss) k there) [
+  | inl here ↦ wall_has_number s book (All-head (HasWalls book) s ss h) k here
+  | inr later ↦ some_wall_has_number ss book (All-tail (HasWalls book) s ss h) k later
+]
+
 -- flags that are the sides of a point on none of the book's planes tell the meaning at the point
-pub sides_tell : (s : Tree) (book : List BookPlane) (q : Point) (flags : List Bool) → HasWalls book s → IsPoint q → AreSidesOf book q flags → told_by (is_in_front q) s ≡ is_meant (body_of s) q
-sides_tell s book q flags walls point sides = sym (meaning_told s q point (λ k there. off k (wall_has_number s book walls k there)))
+pub sides_tell : (ss : List Tree) (book : List BookPlane) (q : Point) (flags : List Bool) → All (HasWalls book) ss → IsPoint q → AreSidesOf book q flags
+    → is_inside_some_by (is_in_front q) ss ≡ is_meant (body_of ss) q
+sides_tell ss book q flags walls point sides = sym (meaning_told ss q point (λ k there. off k (some_wall_has_number ss book walls k there)))
   where
     off : (k : Plane) → HasNumber book k → value k q ≢ pos 0
     off k (n, p, least, at, same) = subst (λ h. value h q ≢ pos 0) same (sides.off n p least at)

@@ -1,5 +1,5 @@
 -- The planes of an element of boxes are the reduced forms of the listed ones.
-use Rattle.std.proofs.Common.{◌≡◌, ◌≢◌, ℤ, pos, ◌*ℤ◌, ◌-ℤ◌, neg_ℤ, ◌<ℤ◌, ◌≤ℤ◌, int_lt, Bool, true, false, ◌&&◌, List, [], ◌∷◌, ◌++◌, ◌⊎◌, inl, inr, refl, sym, ap, subst, ◌∙◌, arith, true≢false}
+use Rattle.std.proofs.Common.{◌≡◌, ◌≢◌, ℤ, pos, ◌*ℤ◌, ◌-ℤ◌, neg_ℤ, ◌<ℤ◌, ◌≤ℤ◌, int_lt, Bool, true, false, ◌&&◌, List, [], ◌∷◌, ◌++◌, map, ◌⊎◌, inl, inr, refl, sym, ap, subst, ◌∙◌, arith, true≢false}
 use Rattle.std.specs.Prelude.{◌↔◌, if◌then◌else◌}
 use Rattle.std.specs.List.{flat_map, All, Contains}
 use Rattle.std.proofs.lemmas.Int.{ints}
@@ -7,7 +7,8 @@ use Rattle.std.proofs.lemmas.List.Elements.{All-nil, All-cons, All-append, All-h
 use Rattle.spec_space.specs.declared.Plane.{Plane}
 use Rattle.spec_space.specs.declared.Vector.{Vector}
 use Rattle.spec_solid.specs.Triangles.{Triangle}
-use Rattle.spec_solid.specs.Planes.{upright_plane, triangle_planes, solid_planes, IsTimes, IsReduced, IsPlaneOf}
+use Rattle.spec_space.specs.Reduced.{IsTimes, IsReduced}
+use Rattle.spec_solid.specs.Planes.{upright_plane, triangle_planes, solid_planes, IsPlaneOf}
 use Rattle.plane_core.specs.Books.{x_plane, y_plane, z_plane}
 use Rattle.plane_core.specs.Planes.{IsReductionOf}
 use Rattle.plane_core.specs.Views.{plane_of}
@@ -17,7 +18,7 @@ use Rattle.integer_laws.proofs.Ring.{var, neg, ◌⊗◌, ◌⊖◌, ring}
 use Rattle.grid_boxes.specs.declared.bounds.Bounds.{Bounds}
 use Rattle.grid_boxes.proofs.Orders.{from_test_false}
 use Rattle.grid_boxes.proofs.Planes.{IsManyX, IsManyY, IsManyZ, IsReducedOf, reduce_x, reduce_y, reduce_z}
-use Rattle.box_solids.specs.Trees.{Tree, Leaf, Joined, solid_of, body_of, has_walls, six_walls, diagonal, planes_of, IsListed}
+use Rattle.box_solids.specs.Trees.{Tree, Leaf, Joined, solid_of, body_of, has_walls, six_walls, diagonal, planes_of, all_planes, IsListed}
 use Rattle.box_solids.proofs.Grid.{grid_triangles, OfPlanes, each_grid_plane, no_grid_plane, IsGridPlane, left_plane, right_plane, front_plane, back_plane, bottom_plane, top_plane, diagonal_plane}
 
 -- each reduced form of the plane is one of the list's planes, but for a factor
@@ -263,41 +264,48 @@ from_listed : (s : Tree) → AreCovered (solid_planes (solid_of s)) (planes_of s
 from_listed (Leaf b) = leaf_from_listed b
 from_listed (Joined operator first second) = covered_both (solid_planes (solid_of first)) (solid_planes (solid_of second)) (planes_of first) (planes_of second) (from_listed first) (from_listed second)
 
--- the planes of the element with one solid
-alone_left : (ks : List Plane) (h : Plane) → IsListed ks h → IsListed ((ks ++ []) ++ []) h
-alone_left ks h l = listed_left (ks ++ []) [] h (listed_left ks [] h l)
+-- ---- some items
+to_listed_all : (ss : List Tree) → AreCovered (all_planes ss) (flat_map solid_planes (map solid_of ss))
+to_listed_all [] = All-nil (IsCovered [])
+to_listed_all (s ∷ ss) = covered_both (planes_of s) (all_planes ss) (solid_planes (solid_of s)) (flat_map solid_planes (map solid_of ss)) (to_listed s) (to_listed_all ss)
 
-alone_covered : (ks : List Plane) → AreCovered ks ((ks ++ []) ++ [])
+from_listed_all : (ss : List Tree) → AreCovered (flat_map solid_planes (map solid_of ss)) (all_planes ss)
+from_listed_all [] = All-nil (IsCovered [])
+from_listed_all (s ∷ ss) = covered_both (solid_planes (solid_of s)) (flat_map solid_planes (map solid_of ss)) (planes_of s) (all_planes ss) (from_listed s) (from_listed_all ss)
+
+-- no openings
+alone_covered : (ks : List Plane) → AreCovered ks (ks ++ [])
 alone_covered ks =
-    All-append (IsCovered ks) (ks ++ []) []
-    (All-append (IsCovered ks) ks []
+    All-append (IsCovered ks) ks []
     (All-weaker (Contains ks) (IsCovered ks) (λ k there. itself_covered ks k there) ks (All-contains_itself ks))
-    (All-nil (IsCovered ks)))
     (All-nil (IsCovered ks))
 
 -- a plane is one of the element's exactly where it is reduced, and a listed one but for a factor
-pub planes_of_body : (s : Tree) (h : Plane) → IsPlaneOf (body_of s) h ↔ (IsReduced h × IsListed (planes_of s) h)
-planes_of_body s h = (there, back)
+pub planes_of_body : (ss : List Tree) (h : Plane) → IsPlaneOf (body_of ss) h ↔ (IsReduced h × IsListed (all_planes ss) h)
+planes_of_body ss h = (there, back)
   where
-    there : IsPlaneOf (body_of s) h → IsReduced h × IsListed (planes_of s) h
+    there : IsPlaneOf (body_of ss) h → IsReduced h × IsListed (all_planes ss) h
     there (r, l) = (
       r,
-      covered_listed (planes_of s) (solid_planes (solid_of s)) h (to_listed s) r
-          (covered_listed (solid_planes (solid_of s)) ((solid_planes (solid_of s) ++ []) ++ []) h (alone_covered (solid_planes (solid_of s))) r l),
+      covered_listed (all_planes ss) (flat_map solid_planes (map solid_of ss)) h (to_listed_all ss) r
+          (covered_listed (flat_map solid_planes (map solid_of ss)) (flat_map solid_planes (map solid_of ss) ++ []) h (alone_covered (flat_map solid_planes (map solid_of ss))) r l),
     )
 
-    back : IsReduced h × IsListed (planes_of s) h → IsPlaneOf (body_of s) h
-    back (r, l) = (r, alone_left (solid_planes (solid_of s)) h (covered_listed (solid_planes (solid_of s)) (planes_of s) h (from_listed s) r l))
+    back : IsReduced h × IsListed (all_planes ss) h → IsPlaneOf (body_of ss) h
+    back (r, l) = (
+      r,
+      listed_left (flat_map solid_planes (map solid_of ss)) [] h (covered_listed (flat_map solid_planes (map solid_of ss)) (all_planes ss) h (from_listed_all ss) r l),
+    )
 
 -- the plane of a book is one of the element's exactly where it is the reduction of a listed one
-pub book_planes_of_body : (s : Tree) (p : BookPlane) → IsPlaneOf (body_of s) (plane_of p) ↔ ((k : Plane) × Contains (planes_of s) k × IsReductionOf p k.a k.b k.c k.d)
-book_planes_of_body s p = (there, back)
+pub book_planes_of_body : (ss : List Tree) (p : BookPlane) → IsPlaneOf (body_of ss) (plane_of p) ↔ ((k : Plane) × Contains (all_planes ss) k × IsReductionOf p k.a k.b k.c k.d)
+book_planes_of_body ss p = (there, back)
   where
-    reduction : IsListed (planes_of s) (plane_of p) → (k : Plane) × Contains (planes_of s) k × IsReductionOf p k.a k.b k.c k.d
+    reduction : IsListed (all_planes ss) (plane_of p) → (k : Plane) × Contains (all_planes ss) k × IsReductionOf p k.a k.b k.c k.d
     reduction (k, m, c, n, e) = (k, c, record { factor = m; some = n; times = e })
 
-    there : IsPlaneOf (body_of s) (plane_of p) → (k : Plane) × Contains (planes_of s) k × IsReductionOf p k.a k.b k.c k.d
-    there h = reduction ((planes_of_body s (plane_of p)).0 h).1
+    there : IsPlaneOf (body_of ss) (plane_of p) → (k : Plane) × Contains (all_planes ss) k × IsReductionOf p k.a k.b k.c k.d
+    there h = reduction ((planes_of_body ss (plane_of p)).0 h).1
 
-    back : (k : Plane) × Contains (planes_of s) k × IsReductionOf p k.a k.b k.c k.d → IsPlaneOf (body_of s) (plane_of p)
-    back (k, c, r) = (planes_of_body s (plane_of p)).1 (reduced_is_reduced p, (k, r.factor, c, r.some, r.times))
+    back : (k : Plane) × Contains (all_planes ss) k × IsReductionOf p k.a k.b k.c k.d → IsPlaneOf (body_of ss) (plane_of p)
+    back (k, c, r) = (planes_of_body ss (plane_of p)).1 (reduced_is_reduced p, (k, r.factor, c, r.some, r.times))

@@ -1,5 +1,5 @@
--- The meaning of an element of boxes at a point is told by the walls that the point lies in front of.
-use Rattle.std.proofs.Common.{◌≡◌, ◌≢◌, ℤ, pos, ◌*ℤ◌, ◌-ℤ◌, ◌<ℤ◌, ◌≤ℤ◌, int_lt, int_le, Bool, true, false, not, ◌&&◌, ◌||◌, [], inl, inr, refl, sym, ap, ap₂, ◌∙◌, arith}
+-- Whether a point is inside an element of boxes is told by the walls that the point lies in front of.
+use Rattle.std.proofs.Common.{◌≡◌, ◌≢◌, ℤ, pos, ◌*ℤ◌, ◌-ℤ◌, ◌<ℤ◌, ◌≤ℤ◌, int_lt, int_le, Bool, true, false, not, ◌&&◌, ◌||◌, List, [], ◌∷◌, map, inl, inr, refl, sym, ap, ap₂, ◌∙◌, arith}
 use Rattle.std.specs.Prelude.{if◌then◌else◌}
 use Rattle.std.specs.List.{Contains}
 use Rattle.std.proofs.lemmas.Int.{ints, by_lt_z}
@@ -7,14 +7,14 @@ use Rattle.std.proofs.lemmas.List.Elements.{Contains-append_left, Contains-appen
 use Rattle.spec_space.specs.declared.Plane.{Plane}
 use Rattle.spec_space.specs.declared.Point.{Point}
 use Rattle.spec_space.specs.Points.{IsPoint, value}
-use Rattle.spec_solid.specs.Solids.{truth, is_inside, is_meant}
+use Rattle.spec_solid.specs.Solids.{truth, is_inside, is_inside_some, is_meant}
 use Rattle.plane_core.specs.Books.{x_plane, y_plane, z_plane}
 use Rattle.grid_boxes.specs.Boxes.{is_between, is_in_box}
 use Rattle.grid_boxes.specs.declared.bounds.Bounds.{Bounds}
 use Rattle.grid_boxes.proofs.Inside.{box_meaning}
 use Rattle.grid_boxes.proofs.Orders.{test_true, test_false, le_true, le_false, nothing_between}
 use Rattle.grid_boxes.proofs.Sides.{value_x, value_y, value_z}
-use Rattle.box_solids.specs.Trees.{Tree, Leaf, Joined, solid_of, body_of, has_walls, six_walls, walls_of, is_between_walls, told_by, is_in_front}
+use Rattle.box_solids.specs.Trees.{Tree, Leaf, Joined, solid_of, body_of, has_walls, six_walls, walls_of, all_walls, is_between_walls, is_inside_by, is_inside_some_by, is_in_front}
 use Rattle.box_solids.proofs.Listed.{is_flat}
 
 -- the flag tells the side of the point, which lies on neither wall
@@ -90,7 +90,7 @@ flat_is_empty b q e = elim (is_flat b e) [
 ]
 
 box_told : (b : Bounds) (in_front : Plane → Bool) (q : Point) → ((k : Plane) → Contains (walls_of (Leaf b)) k → Tells in_front q k)
-    → is_in_box b.low b.high q ≡ told_by in_front (Leaf b)
+    → is_in_box b.low b.high q ≡ is_inside_by in_front (Leaf b)
 box_told b in_front q tells = by (has_walls b) refl tells
   where
     by : (t : Bool) → has_walls b ≡ t → ((k : Plane) → Contains (if t then six_walls b else []) k → Tells in_front q k) → is_in_box b.low b.high q ≡ (t && is_between_walls in_front b)
@@ -103,19 +103,31 @@ shell_only true = refl
 shell_only false = refl
 
 inside_told : (s : Tree) (in_front : Plane → Bool) (q : Point) → IsPoint q → ((k : Plane) → Contains (walls_of s) k → Tells in_front q k)
-    → is_inside (solid_of s) q ≡ told_by in_front s
+    → is_inside (solid_of s) q ≡ is_inside_by in_front s
 inside_told (Leaf b) in_front q p tells =
     sym (shell_only (is_inside (solid_of (Leaf b)) q)) ∙ box_meaning b.low b.high b.ordered q p ∙ box_told b in_front q tells
 inside_told (Joined operator first second) in_front q p tells = ap₂ (truth operator)
     (inside_told first in_front q p (λ k c. tells k (Contains-append_left (walls_of first) (walls_of second) k c)))
     (inside_told second in_front q p (λ k c. tells k (Contains-append_right (walls_of first) (walls_of second) k c)))
 
+-- ---- some items
+inside_some_told : (ss : List Tree) (in_front : Plane → Bool) (q : Point) → IsPoint q → ((k : Plane) → Contains (all_walls ss) k → Tells in_front q k)
+    → is_inside_some (map solid_of ss) q ≡ is_inside_some_by in_front ss
+inside_some_told [] in_front q p tells = refl
+inside_some_told (s ∷ ss) in_front q p tells = ap₂ (λ s t. s || t)
+    (inside_told s in_front q p (λ k c. tells k (Contains-append_left (walls_of s) (all_walls ss) k c)))
+    (inside_some_told ss in_front q p (λ k c. tells k (Contains-append_right (walls_of s) (all_walls ss) k c)))
+
+no_openings : (s : Bool) → (s && not false) ≡ s
+no_openings true = refl
+no_openings false = refl
+
 -- where the flags tell the sides of a point, which is on no wall, they tell the meaning at the point
-pub told_at : (s : Tree) (in_front : Plane → Bool) (q : Point) → IsPoint q → ((k : Plane) → Contains (walls_of s) k → Tells in_front q k)
-    → is_meant (body_of s) q ≡ told_by in_front s
-told_at s in_front q p tells = shell_only (is_inside (solid_of s) q) ∙ inside_told s in_front q p tells
+pub told_at : (ss : List Tree) (in_front : Plane → Bool) (q : Point) → IsPoint q → ((k : Plane) → Contains (all_walls ss) k → Tells in_front q k)
+    → is_meant (body_of ss) q ≡ is_inside_some_by in_front ss
+told_at ss in_front q p tells = no_openings (is_inside_some (map solid_of ss) q) ∙ inside_some_told ss in_front q p tells
 
 -- the meaning at a point on no wall is told by its sides
-pub meaning_told : (s : Tree) (q : Point) → IsPoint q → ((k : Plane) → Contains (walls_of s) k → value k q ≢ pos 0)
-    → is_meant (body_of s) q ≡ told_by (is_in_front q) s
-meaning_told s q p off = told_at s (is_in_front q) q p (λ k c. record { tells = refl; off = off k c })
+pub meaning_told : (ss : List Tree) (q : Point) → IsPoint q → ((k : Plane) → Contains (all_walls ss) k → value k q ≢ pos 0)
+    → is_meant (body_of ss) q ≡ is_inside_some_by (is_in_front q) ss
+meaning_told ss q p off = told_at ss (is_in_front q) q p (λ k c. record { tells = refl; off = off k c })

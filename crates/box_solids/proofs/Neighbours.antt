@@ -1,4 +1,4 @@
--- The meaning at the two neighbours of a point that is alone on a plane, and at two points on the same sides.
+-- The meaning at the two neighbours of a point that is alone on a plane.
 use Rattle.std.proofs.Common.{◌≡◌, ◌≢◌, ◌≤◌, ◌^◌, ℤ, pos, ◌+ℤ◌, ◌*ℤ◌, ◌-ℤ◌, ◌<ℤ◌, ◌≤ℤ◌, unsigned_abs, int_lt, int_eq, Bool, true, false, ◌&&◌, List, [], ◌∷◌, refl, sym, ap, subst, ◌∙◌, arith, true≢false}
 use Rattle.std.specs.Prelude.{if◌then◌else◌}
 use Rattle.std.specs.List.{Contains}
@@ -8,29 +8,15 @@ use Rattle.spec_space.specs.declared.Plane.{Plane}
 use Rattle.spec_space.specs.declared.Point.{Point}
 use Rattle.spec_space.specs.Points.{IsPoint, value, normal, dot}
 use Rattle.spec_solid.specs.Solids.{is_meant}
-use Rattle.spec_solid.specs.Planes.{IsPlaneOf, IsAlone, front_of, back_of}
+use Rattle.spec_solid.specs.Planes.{IsAlone, front_of, back_of}
 use Rattle.plane_core.specs.Views.{plane_of}
 use Rattle.plane_core.specs.declared.numbers.Plane.{Plane as BookPlane}
 use Rattle.integer_laws.proofs.Ring.{Expr, var, ◌⊕◌, ◌⊗◌, ◌⊖◌, ring}
 use Rattle.integer_laws.proofs.Signs.{mul_positive}
 use Rattle.grid_boxes.proofs.Orders.{test_true, test_false}
-use Rattle.box_solids.specs.Trees.{Tree, body_of, walls_of, told_by, is_in_front, is_plane, is_in_front_across}
+use Rattle.box_solids.specs.Trees.{Tree, body_of, all_walls, is_inside_some_by, is_in_front, is_plane, is_in_front_across}
 use Rattle.box_solids.proofs.Meaning.{Tells, told_at}
 use Rattle.box_solids.proofs.WallPlanes.{IsWall, across_x, across_y, across_z, is_wall, wall_is_plane}
-
--- ---- two points on the same sides
--- the points lie on the same side of the plane, and neither is on it
-pub record AreBeside (h : Plane) (p q : Point) : Type 0 where
-  pub first_off : value h p ≢ pos 0
-  pub second_off : value h q ≢ pos 0
-  pub same : is_in_front p h ≡ is_in_front q h
-
--- two points that lie on the same sides of all planes of the element have the same meaning
-pub same_sides : (s : Tree) (p q : Point) → IsPoint p → IsPoint q → ((h : Plane) → IsPlaneOf (body_of s) h → AreBeside h p q)
-    → is_meant (body_of s) p ≡ is_meant (body_of s) q
-same_sides s p q at_p at_q beside =
-    told_at s (is_in_front q) p at_p (λ k c. record { tells = (beside k (wall_is_plane s k c)).same; off = (beside k (wall_is_plane s k c)).first_off })
-    ∙ sym (told_at s (is_in_front q) q at_q (λ k c. record { tells = refl; off = (beside k (wall_is_plane s k c)).second_off }))
 
 -- ---- the test of a plane
 both : (s t : Bool) → (s && t) ≡ true → (s ≡ true) × (t ≡ true)
@@ -151,9 +137,9 @@ factor_positive : pos 0 <ℤ factor
 factor_positive = record { lt = tt }
 
 -- ---- the neighbours
-module _ (s : Tree) (h : BookPlane) (p : Point) (positive : IsPoint p) (alone : IsAlone (body_of s) (plane_of h) p) where
-  off_others : (k : Plane) → Contains (walls_of s) k → k ≢ plane_of h → value k p ≢ pos 0
-  off_others k c other zero = other (alone.2 k (wall_is_plane s k c) zero)
+module _ (ss : List Tree) (h : BookPlane) (p : Point) (positive : IsPoint p) (alone : IsAlone (body_of ss) (plane_of h) p) where
+  off_others : (k : Plane) → Contains (all_walls ss) k → k ≢ plane_of h → value k p ≢ pos 0
+  off_others k c other zero = other (alone.2 k (wall_is_plane ss k c) zero)
 
   own_value : (k : Plane) → k ≡ plane_of h → value k p ≡ pos 0
   own_value k e = ap (λ l. value l p) e ∙ alone.1
@@ -161,42 +147,42 @@ module _ (s : Tree) (h : BookPlane) (p : Point) (positive : IsPoint p) (alone : 
   own_dot : (k : Plane) → IsWall k → k ≡ plane_of h → dot (normal k) (normal (plane_of h)) ≡ pos 1
   own_dot k wall e = ap (λ l. dot (normal k) (normal l)) (sym e) ∙ wall_dot_itself k wall
 
-  front_tells : (k : Plane) → Contains (walls_of s) k → Tells (is_in_front_across (plane_of h) true p) (front_of (plane_of h) p) k
+  front_tells : (k : Plane) → Contains (all_walls ss) k → Tells (is_in_front_across (plane_of h) true p) (front_of (plane_of h) p) k
   front_tells k c = by (is_plane k (plane_of h)) refl
     where
       by : (t : Bool) → is_plane k (plane_of h) ≡ t → Tells (is_in_front_across (plane_of h) true p) (front_of (plane_of h) p) k
       by true e =
           let same = same_from_test k (plane_of h) e in
-          let ahead = on_plane (value k p) (dot (normal k) (normal (plane_of h))) (value k (front_of (plane_of h) p)) (own_value k same) (own_dot k (is_wall s k c) same) (front_value k (plane_of h) p) in
+          let ahead = on_plane (value k p) (dot (normal k) (normal (plane_of h))) (value k (front_of (plane_of h) p)) (own_value k same) (own_dot k (is_wall ss k c) same) (front_value k (plane_of h) p) in
           record {
             tells = test_true (pos 0) (value k (front_of (plane_of h) p)) ahead ∙ sym (ap (λ t. if t then true else is_in_front p k) e);
             off = positive_off (value k (front_of (plane_of h) p)) ahead;
           }
       by false e =
           let side = same_side (value k p) (value k (front_of (plane_of h) p)) (off_others k c (other_from_test k (plane_of h) e))
-          (shift_up (value k p) (dot (normal k) (normal (plane_of h))) (value k (front_of (plane_of h) p)) (wall_dot_small k h (is_wall s k c)) (front_value k (plane_of h) p)) in
+          (shift_up (value k p) (dot (normal k) (normal (plane_of h))) (value k (front_of (plane_of h) p)) (wall_dot_small k h (is_wall ss k c)) (front_value k (plane_of h) p)) in
           record { tells = side.same ∙ sym (ap (λ t. if t then true else is_in_front p k) e); off = side.off }
 
-  back_tells : (k : Plane) → Contains (walls_of s) k → Tells (is_in_front_across (plane_of h) false p) (back_of (plane_of h) p) k
+  back_tells : (k : Plane) → Contains (all_walls ss) k → Tells (is_in_front_across (plane_of h) false p) (back_of (plane_of h) p) k
   back_tells k c = by (is_plane k (plane_of h)) refl
     where
       by : (t : Bool) → is_plane k (plane_of h) ≡ t → Tells (is_in_front_across (plane_of h) false p) (back_of (plane_of h) p) k
       by true e =
           let same = same_from_test k (plane_of h) e in
-          let below = on_plane_back (value k p) (dot (normal k) (normal (plane_of h))) (value k (back_of (plane_of h) p)) (own_value k same) (own_dot k (is_wall s k c) same) (back_value k (plane_of h) p) in
+          let below = on_plane_back (value k p) (dot (normal k) (normal (plane_of h))) (value k (back_of (plane_of h) p)) (own_value k same) (own_dot k (is_wall ss k c) same) (back_value k (plane_of h) p) in
           record {
             tells = test_false (pos 0) (value k (back_of (plane_of h) p)) (weaker (value k (back_of (plane_of h) p)) below) ∙ sym (ap (λ t. if t then false else is_in_front p k) e);
             off = negative_off (value k (back_of (plane_of h) p)) below;
           }
       by false e =
           let side = same_side (value k p) (value k (back_of (plane_of h) p)) (off_others k c (other_from_test k (plane_of h) e))
-          (shift_down (value k p) (dot (normal k) (normal (plane_of h))) (value k (back_of (plane_of h) p)) (wall_dot_small k h (is_wall s k c)) (back_value k (plane_of h) p)) in
+          (shift_down (value k p) (dot (normal k) (normal (plane_of h))) (value k (back_of (plane_of h) p)) (wall_dot_small k h (is_wall ss k c)) (back_value k (plane_of h) p)) in
           record { tells = side.same ∙ sym (ap (λ t. if t then false else is_in_front p k) e); off = side.off }
 
   -- in front of the plane, the point's neighbour has the sides of the point, and is in front of the plane
-  pub neighbour_in_front : is_meant (body_of s) (front_of (plane_of h) p) ≡ told_by (is_in_front_across (plane_of h) true p) s
-  neighbour_in_front = told_at s (is_in_front_across (plane_of h) true p) (front_of (plane_of h) p) (mul_positive factor p.w factor_positive positive) front_tells
+  pub neighbour_in_front : is_meant (body_of ss) (front_of (plane_of h) p) ≡ is_inside_some_by (is_in_front_across (plane_of h) true p) ss
+  neighbour_in_front = told_at ss (is_in_front_across (plane_of h) true p) (front_of (plane_of h) p) (mul_positive factor p.w factor_positive positive) front_tells
 
   -- behind the plane, it has the sides of the point, and is not in front of the plane
-  pub neighbour_behind : is_meant (body_of s) (back_of (plane_of h) p) ≡ told_by (is_in_front_across (plane_of h) false p) s
-  neighbour_behind = told_at s (is_in_front_across (plane_of h) false p) (back_of (plane_of h) p) (mul_positive factor p.w factor_positive positive) back_tells
+  pub neighbour_behind : is_meant (body_of ss) (back_of (plane_of h) p) ≡ is_inside_some_by (is_in_front_across (plane_of h) false p) ss
+  neighbour_behind = told_at ss (is_in_front_across (plane_of h) false p) (back_of (plane_of h) p) (mul_positive factor p.w factor_positive positive) back_tells

@@ -6,7 +6,7 @@ use Rattle.std.proofs.lemmas.Nat.Gcd.{IsGcd-from_zero, IsGcd-from_sub, IsGcd-swa
 use Rattle.spec_space.specs.declared.Plane.{Plane}
 use Rattle.spec_space.specs.declared.Point.{Point}
 use Rattle.spec_space.specs.Points.{value}
-use Rattle.spec_solid.specs.Planes.{IsTimes}
+use Rattle.spec_space.specs.Reduced.{IsTimes}
 use Rattle.integer_laws.proofs.Computed.{Is}
 use Rattle.integer_laws.proofs.Ring.{var, ◌⊕◌, ◌⊗◌, ◌⊖◌, ring}
 use Rattle.plane_core.specs.Numbers.{IsGcdOfFour}

@@ -1,11 +1,13 @@
 -- Outside the enclosing cube an element of boxes means nothing.
-use Rattle.std.proofs.Common.{◌≡◌, ◌≢◌, ◌≤◌, ◌^◌, ℤ, pos, negsuc, ◌*ℤ◌, ◌-ℤ◌, ◌<ℤ◌, ◌≤ℤ◌, unsigned_abs, Bool, true, false, not, ◌&&◌, refl, ap, ◌∙◌, arith}
+use Rattle.std.proofs.Common.{◌≡◌, ◌≢◌, ◌≤◌, ◌^◌, ℤ, pos, negsuc, ◌*ℤ◌, ◌-ℤ◌, ◌<ℤ◌, ◌≤ℤ◌, unsigned_abs, Bool, true, false, not, ◌&&◌, ◌||◌, List, [], ◌∷◌, refl, ap, ◌∙◌, arith}
 use Rattle.std.specs.Prelude.{if◌then◌else◌}
 use Rattle.std.proofs.lemmas.Int.{ints}
 use Rattle.spec_space.specs.declared.Plane.{Plane}
 use Rattle.spec_space.specs.declared.Point.{Point}
 use Rattle.spec_space.specs.Points.{IsPoint, value}
-use Rattle.spec_solid.specs.Solids.{Operator, Union, Intersection, Difference, truth, is_meant}
+use Rattle.spec_solid.specs.declared.BoolOp.{BoolOp}
+use Rattle.spec_solid.specs.declared.BoolOp.TheVariants.{Union, Intersection, Difference}
+use Rattle.spec_solid.specs.Solids.{truth, is_meant}
 use Rattle.spec_solid.specs.Planes.{IsAlone, front_of, back_of}
 use Rattle.plane_core.specs.Books.{x_plane, y_plane, z_plane}
 use Rattle.plane_core.specs.Views.{plane_of}
@@ -14,7 +16,7 @@ use Rattle.integer_laws.proofs.Signs.{scaled_le}
 use Rattle.grid_boxes.specs.declared.bounds.Bounds.{Bounds}
 use Rattle.grid_boxes.proofs.Orders.{test_true, test_false}
 use Rattle.grid_boxes.proofs.Sides.{value_x, value_y, value_z}
-use Rattle.box_solids.specs.Trees.{Tree, Leaf, Joined, body_of, has_walls, is_between_walls, told_by, is_in_front, is_plane, is_in_front_across}
+use Rattle.box_solids.specs.Trees.{Tree, Leaf, Joined, body_of, has_walls, is_between_walls, is_inside_by, is_inside_some_by, is_in_front, is_plane, is_in_front_across}
 use Rattle.box_solids.specs.Far.{IsFar, far_left, far_right, far_front, far_back, far_down, far_up}
 use Rattle.box_solids.proofs.Neighbours.{same_from_test, neighbour_in_front, neighbour_behind}
 
@@ -22,16 +24,20 @@ never : (s : Bool) → (s && false) ≡ false
 never true = refl
 never false = refl
 
-neither : (operator : Operator) → truth operator false false ≡ false
+neither : (operator : BoolOp) → truth operator false false ≡ false
 neither Union = refl
 neither Intersection = refl
 neither Difference = refl
 
 -- a point that is told to be between the walls of no box is told to be in no solid
-told_nowhere : (in_front : Plane → Bool) → ((b : Bounds) → is_between_walls in_front b ≡ false) → (s : Tree) → told_by in_front s ≡ false
-told_nowhere in_front none (Leaf b) = ap (λ t. has_walls b && t) (none b) ∙ never (has_walls b)
-told_nowhere in_front none (Joined operator first second) =
-    (λ i. truth operator (told_nowhere in_front none first i) (told_nowhere in_front none second i)) ∙ neither operator
+nowhere_inside : (in_front : Plane → Bool) → ((b : Bounds) → is_between_walls in_front b ≡ false) → (s : Tree) → is_inside_by in_front s ≡ false
+nowhere_inside in_front none (Leaf b) = ap (λ t. has_walls b && t) (none b) ∙ never (has_walls b)
+nowhere_inside in_front none (Joined operator first second) =
+    (λ i. truth operator (nowhere_inside in_front none first i) (nowhere_inside in_front none second i)) ∙ neither operator
+
+nowhere_inside_some : (in_front : Plane → Bool) → ((b : Bounds) → is_between_walls in_front b ≡ false) → (ss : List Tree) → is_inside_some_by in_front ss ≡ false
+nowhere_inside_some in_front none [] = refl
+nowhere_inside_some in_front none (s ∷ ss) = λ i. nowhere_inside in_front none s i || nowhere_inside_some in_front none ss i
 
 -- ---- one range of the three
 first_out : (a b c : Bool) → a ≡ false → (a && (b && c)) ≡ false
@@ -122,9 +128,9 @@ module _ (h : Plane) (front : Bool) (p : Point) (positive : IsPoint p) (on : val
           (is_ahead (z_plane b.high.z) (above_high b.high.z p.z p.w (value (z_plane b.high.z) p) b.high_steps.z positive f (value_z b.high.z p.x p.y p.z p.w))))
 
 -- both neighbours of a far point that is alone on a plane are outside the element
-pub outside_cube : (s : Tree) (h : BookPlane) (p : Point) → IsPoint p → IsAlone (body_of s) (plane_of h) p → IsFar p
-    → (is_meant (body_of s) (front_of (plane_of h) p) ≡ false) × (is_meant (body_of s) (back_of (plane_of h) p) ≡ false)
-outside_cube s h p positive alone far = (
-  neighbour_in_front s h p positive alone ∙ told_nowhere (is_in_front_across (plane_of h) true p) (far_from_box (plane_of h) true p positive alone.1 far) s,
-  neighbour_behind s h p positive alone ∙ told_nowhere (is_in_front_across (plane_of h) false p) (far_from_box (plane_of h) false p positive alone.1 far) s,
+pub outside_cube : (ss : List Tree) (h : BookPlane) (p : Point) → IsPoint p → IsAlone (body_of ss) (plane_of h) p → IsFar p
+    → (is_meant (body_of ss) (front_of (plane_of h) p) ≡ false) × (is_meant (body_of ss) (back_of (plane_of h) p) ≡ false)
+outside_cube ss h p positive alone far = (
+  neighbour_in_front ss h p positive alone ∙ nowhere_inside_some (is_in_front_across (plane_of h) true p) (far_from_box (plane_of h) true p positive alone.1 far) ss,
+  neighbour_behind ss h p positive alone ∙ nowhere_inside_some (is_in_front_across (plane_of h) false p) (far_from_box (plane_of h) false p positive alone.1 far) ss,
 )

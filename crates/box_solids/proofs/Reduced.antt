@@ -3,7 +3,7 @@ use Rattle.std.proofs.Common.{◌≡◌, ◌≢◌, ℕ, zero, suc, ◌<◌, ℤ
 use Rattle.std.proofs.lemmas.Int.{ints}
 use Rattle.spec_space.specs.declared.Plane.{Plane}
 use Rattle.spec_space.specs.Points.{opposite}
-use Rattle.spec_solid.specs.Planes.{LeadsPositive, IsTimes, IsReduced}
+use Rattle.spec_space.specs.Reduced.{LeadsPositive, IsTimes, IsReduced}
 use Rattle.integer_laws.proofs.Ring.{var, neg, ◌⊗◌, ring}
 use Rattle.plane_core.proofs.Multiples.{shares, turn_both, turn_first}
 

@@ -1,13 +1,15 @@
 -- The search for a plane in a book, and the walls of one box.
-use Rattle.std.proofs.Common.{◌≡◌, ℕ, zero, suc, ◌+◌, ◌<◌, ◌≤◌, Bool, true, false, not, ◌&&◌, List, [], length, slice_get, Option, Some, None, Contains, ◌⊎◌, inl, inr, refl, sym, ap, subst, ◌∙◌, arith}
+use Rattle.std.proofs.Common.{◌≡◌, ℕ, zero, suc, ◌+◌, ◌<◌, ◌≤◌, Bool, true, false, not, ◌&&◌, List, [], ◌∷◌, map, length, get_or, slice_get, Option, Some, None, Contains, ◌⊎◌, inl, inr, refl, sym, ap, subst, ◌∙◌, arith}
 use Rattle.std.specs.Prelude.{if◌then◌else◌}
+use Rattle.std.specs.List.{All}
 use Rattle.std.proofs.lemmas.Option.{slice_get_within}
+use Rattle.std.proofs.lemmas.List.Elements.{All-head, All-tail}
 use Rattle.spec_space.specs.declared.Plane.{Plane}
 use Rattle.plane_core.specs.Books.{x_plane, y_plane, z_plane}
 use Rattle.plane_core.specs.Views.{plane_of}
 use Rattle.plane_core.specs.declared.numbers.Plane.{Plane as BookPlane}
 use Rattle.grid_boxes.specs.declared.bounds.Bounds.{Bounds}
-use Rattle.box_solids.specs.Trees.{Leaf, has_walls, six_walls, is_plane}
+use Rattle.box_solids.specs.Trees.{Tree, Leaf, has_walls, six_walls, is_plane}
 use Rattle.box_solids.specs.Books.{HasNumber, HasWalls}
 use Rattle.box_solids.proofs.Neighbours.{same_from_test, other_from_test}
 
@@ -71,3 +73,9 @@ has_six book b e known =
 -- a test of two walls, where these are equal to others
 pub between_same : (sides : Plane → Bool) {r : Bool} {k l m n : Plane} → r ≡ (sides k && not (sides l)) → k ≡ m → l ≡ n → r ≡ (sides m && not (sides n))
 between_same sides e p q = e ∙ (λ i. sides (p i) && not (sides (q i)))
+
+-- ---- one solid of some
+pub walls_at : {X : Type 0} (f : X → Tree) (book : List BookPlane) (xs : List X) (i : ℕ) (x : X) → i < length xs → x ≡ get_or xs i x → All (HasWalls book) (map f xs) → HasWalls book (f x)
+walls_at f book [] i x below item known = absurd (omega arith)
+walls_at f book (y ∷ ys) zero x below item known = subst (λ z. HasWalls book (f z)) (sym item) (All-head (HasWalls book) (f y) (map f ys) known)
+walls_at f book (y ∷ ys) (suc i) x below item known = walls_at f book ys i x (omega arith) item (All-tail (HasWalls book) (f y) (map f ys) known)

@@ -1,16 +1,17 @@
 -- The walls of the boxes are planes of the element.
-use Rattle.std.proofs.Common.{◌≡◌, ◌≢◌, ℕ, ◌≤◌, ℤ, pos, ◌*ℤ◌, ◌<ℤ◌, unsigned_abs, Bool, true, false, [], ◌∷◌, ◌++◌, inl, inr, refl, sym, ap, ◌∙◌, arith}
+use Rattle.std.proofs.Common.{◌≡◌, ◌≢◌, ℕ, ◌≤◌, ℤ, pos, ◌*ℤ◌, ◌<ℤ◌, unsigned_abs, Bool, true, false, List, [], ◌∷◌, ◌++◌, inl, inr, refl, sym, ap, ◌∙◌, arith}
 use Rattle.std.specs.Prelude.{if◌then◌else◌}
 use Rattle.std.specs.List.{All, Contains}
 use Rattle.std.proofs.lemmas.Int.{ints}
 use Rattle.std.proofs.lemmas.List.Elements.{All-nil, All-cons, All-append, All-contains, Contains-append_left, Contains-append_right, Contains-append_cases}
 use Rattle.spec_space.specs.declared.Plane.{Plane}
-use Rattle.spec_solid.specs.Planes.{IsReduced, IsPlaneOf}
+use Rattle.spec_space.specs.Reduced.{IsReduced}
+use Rattle.spec_solid.specs.Planes.{IsPlaneOf}
 use Rattle.plane_core.specs.Books.{x_plane, y_plane, z_plane}
 use Rattle.integer_laws.proofs.Ring.{*ℤ_comm}
 use Rattle.integer_laws.proofs.Products.{zero_left, zero_right, size_factor, size_positive}
 use Rattle.grid_boxes.specs.declared.bounds.Bounds.{Bounds}
-use Rattle.box_solids.specs.Trees.{Tree, Leaf, Joined, body_of, has_walls, six_walls, diagonal, walls_of, planes_of}
+use Rattle.box_solids.specs.Trees.{Tree, Leaf, Joined, body_of, has_walls, six_walls, diagonal, walls_of, planes_of, all_walls, all_planes}
 use Rattle.box_solids.proofs.Listed.{planes_of_body, listed_itself}
 
 -- a plane across an axis
@@ -59,10 +60,14 @@ are_walls (Leaf b) = by (has_walls b)
     by false = All-nil IsWall
 are_walls (Joined operator first second) = All-append IsWall (walls_of first) (walls_of second) (are_walls first) (are_walls second)
 
-pub is_wall : (s : Tree) (k : Plane) → Contains (walls_of s) k → IsWall k
-is_wall s k c = All-contains IsWall (walls_of s) k (are_walls s) c
+all_are_walls : (ss : List Tree) → All IsWall (all_walls ss)
+all_are_walls [] = All-nil IsWall
+all_are_walls (s ∷ ss) = All-append IsWall (walls_of s) (all_walls ss) (are_walls s) (all_are_walls ss)
 
-pub wall_is_listed : (s : Tree) (k : Plane) → Contains (walls_of s) k → Contains (planes_of s) k
+pub is_wall : (ss : List Tree) (k : Plane) → Contains (all_walls ss) k → IsWall k
+is_wall ss k c = All-contains IsWall (all_walls ss) k (all_are_walls ss) c
+
+wall_is_listed : (s : Tree) (k : Plane) → Contains (walls_of s) k → Contains (planes_of s) k
 wall_is_listed (Leaf b) k c = by (has_walls b) c
   where
     by : (t : Bool) → Contains (if t then six_walls b else []) k → Contains (if t then (six_walls b ++ (diagonal b ∷ [])) else []) k
@@ -73,6 +78,13 @@ wall_is_listed (Joined operator first second) k c = elim (Contains-append_cases 
   | inr d ↦ Contains-append_right (planes_of first) (planes_of second) k (wall_is_listed second k d)
 ]
 
+some_wall_is_listed : (ss : List Tree) (k : Plane) → Contains (all_walls ss) k → Contains (all_planes ss) k
+some_wall_is_listed [] k c = c
+some_wall_is_listed (s ∷ ss) k c = elim (Contains-append_cases (walls_of s) (all_walls ss) k c) [
+  | inl d ↦ Contains-append_left (planes_of s) (all_planes ss) k (wall_is_listed s k d)
+  | inr d ↦ Contains-append_right (planes_of s) (all_planes ss) k (some_wall_is_listed ss k d)
+]
+
 -- a wall of a box is a plane of the element
-pub wall_is_plane : (s : Tree) (k : Plane) → Contains (walls_of s) k → IsPlaneOf (body_of s) k
-wall_is_plane s k c = (planes_of_body s k).1 (wall-IsReduced k (is_wall s k c), listed_itself (planes_of s) k (wall_is_listed s k c))
+pub wall_is_plane : (ss : List Tree) (k : Plane) → Contains (all_walls ss) k → IsPlaneOf (body_of ss) k
+wall_is_plane ss k c = (planes_of_body ss k).1 (wall-IsReduced k (is_wall ss k c), listed_itself (all_planes ss) k (some_wall_is_listed ss k c))

@@ -1,13 +1,15 @@
--- Trees of boxes: the solids that they stand for, the planes of these, and their meaning told by the sides of a point.
-use Rattle.std.specs.Prelude.{◌≢◌, ℤ, pos, int_lt, Bool, not, ◌&&◌, List, [], ◌∷◌, ◌++◌, Contains, if◌then◌else◌}
+-- Trees of boxes: the solids that they stand for, the planes of these, and whether a point is inside, by its sides.
+use Rattle.std.specs.Prelude.{◌≢◌, ℕ, ◌+◌, ℤ, pos, int_lt, Bool, not, ◌&&◌, ◌||◌, false, List, [], ◌∷◌, ◌++◌, map, Contains, if◌then◌else◌}
 use Rattle.std.specs.Ordering.{int_eq}
 use Rattle.std.specs.List.{flat_map}
 use Rattle.spec_space.specs.declared.Plane.{Plane}
 use Rattle.spec_space.specs.declared.Point.{Point}
 use Rattle.spec_space.specs.Points.{value}
-use Rattle.spec_solid.specs.Solids.{Operator, Solid, Shell, Combined, Body, truth}
+use Rattle.spec_solid.specs.declared.BoolOp.{BoolOp}
+use Rattle.spec_solid.specs.Solids.{Solid, Shell, Combined, Body, truth}
 use Rattle.spec_solid.specs.Extrusions.{face_triangles}
-use Rattle.spec_solid.specs.Planes.{upright_plane, IsTimes}
+use Rattle.spec_space.specs.Reduced.{IsTimes}
+use Rattle.spec_solid.specs.Planes.{upright_plane}
 use Rattle.plane_core.specs.Books.{x_plane, y_plane, z_plane}
 use Rattle.grid_boxes.specs.Boxes.{box_faces}
 use Rattle.grid_boxes.specs.declared.bounds.Bounds.{Bounds}
@@ -15,16 +17,21 @@ use Rattle.grid_boxes.specs.declared.bounds.Bounds.{Bounds}
 -- a box, or two trees and an operator that combines them
 pub data Tree : Type 0 where
   Leaf : Bounds → Tree
-  Joined : Operator → Tree → Tree → Tree
+  Joined : BoolOp → Tree → Tree → Tree
+
+-- the number of boxes
+abbrev pub box_count : Tree → ℕ
+box_count (Leaf b) = 1
+box_count (Joined operator first second) = box_count first + box_count second
 
 -- a box is the shell of its triangles
 abbrev pub solid_of : Tree → Solid
 solid_of (Leaf b) = Shell (flat_map face_triangles (box_faces b.low b.high))
 solid_of (Joined operator first second) = Combined operator (solid_of first) (solid_of second)
 
--- the element with this one solid, and no openings
-abbrev pub body_of : Tree → Body
-body_of s = record { items = solid_of s ∷ []; openings = [] }
+-- the element with these items, and no openings
+abbrev pub body_of : List Tree → Body
+body_of ss = record { items = map solid_of ss; openings = [] }
 
 -- the box has an extent along x and one along y: else each of its triangles is upright, and has no plane
 abbrev pub has_walls : Bounds → Bool
@@ -48,6 +55,13 @@ abbrev pub planes_of : Tree → List Plane
 planes_of (Leaf b) = if has_walls b then (six_walls b ++ (diagonal b ∷ [])) else []
 planes_of (Joined operator first second) = planes_of first ++ planes_of second
 
+-- those of all items
+abbrev pub all_walls : List Tree → List Plane
+all_walls = flat_map walls_of
+
+abbrev pub all_planes : List Tree → List Plane
+all_planes = flat_map planes_of
+
 -- the point lies between the walls of the box, by the walls that it lies in front of
 abbrev pub is_between_walls : (Plane → Bool) → Bounds → Bool
 is_between_walls in_front b =
@@ -55,10 +69,15 @@ is_between_walls in_front b =
     && ((in_front (y_plane b.low.y) && not (in_front (y_plane b.high.y)))
     && (in_front (z_plane b.low.z) && not (in_front (z_plane b.high.z))))
 
--- the meaning of the solid at a point, told by the walls that the point lies in front of
-abbrev pub told_by : (Plane → Bool) → Tree → Bool
-told_by in_front (Leaf b) = has_walls b && is_between_walls in_front b
-told_by in_front (Joined operator first second) = truth operator (told_by in_front first) (told_by in_front second)
+-- whether a point is inside the solid, by the walls that it lies in front of
+abbrev pub is_inside_by : (Plane → Bool) → Tree → Bool
+is_inside_by in_front (Leaf b) = has_walls b && is_between_walls in_front b
+is_inside_by in_front (Joined operator first second) = truth operator (is_inside_by in_front first) (is_inside_by in_front second)
+
+-- whether it is inside some item
+abbrev pub is_inside_some_by : (Plane → Bool) → List Tree → Bool
+is_inside_some_by in_front [] = false
+is_inside_some_by in_front (s ∷ ss) = is_inside_by in_front s || is_inside_some_by in_front ss
 
 abbrev pub is_in_front : Point → Plane → Bool
 is_in_front p k = int_lt (pos 0) (value k p)

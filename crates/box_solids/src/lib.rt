@@ -8,6 +8,6 @@ mod solids;
 mod tests;
 mod walls;
 
-pub use planes::{add_planes, plane_book};
-pub use sides::told;
-pub use solids::{BoxSolid, Operator};
+pub use planes::plane_book;
+pub use sides::meaning_by_sides;
+pub use solids::BoxSolid;

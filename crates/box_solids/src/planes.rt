@@ -1,5 +1,5 @@
-ghost use Rattle.std.specs.Prelude.{◌≡◌, ◌^◌, ◌≤◌, ◌∷◌, [], length, All, IfOk, OnOk};
-ghost use Rattle.box_solids.specs.Trees.{Leaf, body_of, planes_of};
+ghost use Rattle.std.specs.Prelude.{◌≡◌, ◌^◌, ◌≤◌, ◌+◌, ◌∷◌, [], length, map, sum_by, All, IfOk, OnOk};
+ghost use Rattle.box_solids.specs.Trees.{Leaf, box_count, body_of, planes_of, all_planes};
 ghost use Rattle.box_solids.specs.Views.{tree_of};
 ghost use Rattle.plane_core.specs.Planes.{IsReductionOf};
 ghost use Rattle.box_solids.specs.Books.{ArePlanesOf, IsKept, HasAdded, IsSmallPlane};
@@ -10,9 +10,6 @@ use grid_boxes::Bounds;
 use plane_core::PlaneBook;
 use spec_space::Plane;
 use std::alloc::{AllocError, Global};
-
-/// How many planes a book can have: with as many the memory counts as full.
-const MOST_PLANES: usize = 1 << 31;
 
 /// The plane, reduced.
 fn reduced(plane: &Plane) -> plane_core::Plane
@@ -28,13 +25,10 @@ fn reduced(plane: &Plane) -> plane_core::Plane
 /// Adds the reduced form of a plane to a book.
 fn add_plane(book: &mut PlaneBook, plane: &Plane) -> Result<(), AllocError>
     requires small { IsSmallPlane plane.now }
+    requires room { length book.old + 1 ≤ 2 ^ 31 }
     ensures added { OnOk result (HasAdded book.old (plane.now ∷ []) book.new) }
     ensures kept { IsKept book.old book.new }
-    ensures size { length book.old ≤ 2 ^ 31 → length book.new ≤ 2 ^ 31 }
 {
-    if book.count() >= MOST_PLANES {
-        return Err(AllocError);
-    }
     book.add(reduced(plane))?;
     Ok(())
 }
@@ -42,9 +36,9 @@ fn add_plane(book: &mut PlaneBook, plane: &Plane) -> Result<(), AllocError>
 /// Adds the reduced forms of planes to a book.
 fn add_all(book: &mut PlaneBook, planes: &[Plane]) -> Result<(), AllocError>
     requires small { All IsSmallPlane planes.now }
+    requires room { length book.old + length planes.now ≤ 2 ^ 31 }
     ensures added { OnOk result (HasAdded book.old planes.now book.new) }
     ensures kept { IsKept book.old book.new }
-    ensures size { length book.old ≤ 2 ^ 31 → length book.new ≤ 2 ^ 31 }
 {
     for plane in planes {
         add_plane(book, plane)?;
@@ -54,9 +48,9 @@ fn add_all(book: &mut PlaneBook, planes: &[Plane]) -> Result<(), AllocError>
 
 /// Adds the planes of a box to a book.
 fn add_box(book: &mut PlaneBook, bounds: &Bounds) -> Result<(), AllocError>
+    requires room { length book.old + length (planes_of (Leaf bounds.now)) ≤ 2 ^ 31 }
     ensures added { OnOk result (HasAdded book.old (planes_of (Leaf bounds.now)) book.new) }
     ensures kept { IsKept book.old book.new }
-    ensures size { length book.old ≤ 2 ^ 31 → length book.new ≤ 2 ^ 31 }
 {
     if !has_walls(bounds) {
         return Ok(());
@@ -68,10 +62,10 @@ fn add_box(book: &mut PlaneBook, bounds: &Bounds) -> Result<(), AllocError>
 /// diagonals of each box, along which its bottom and its top are cut into triangles. A box that is flat along x or y has
 /// none. The error is want of memory, and then some of the planes were added.
 #[tactic(auto, using(crate::proofs::Additions::kept_further))]
-pub fn add_planes(book: &mut PlaneBook, solid: &BoxSolid) -> Result<(), AllocError>
+fn add_planes(book: &mut PlaneBook, solid: &BoxSolid) -> Result<(), AllocError>
+    requires room { length book.old + length (planes_of (tree_of solid.now)) ≤ 2 ^ 31 }
     ensures added { OnOk result (HasAdded book.old (planes_of (tree_of solid.now)) book.new) }
     ensures kept { IsKept book.old book.new }
-    ensures size { length book.old ≤ 2 ^ 31 → length book.new ≤ 2 ^ 31 }
 {
     match solid {
         BoxSolid::Box(bounds) => add_box(book, bounds),
@@ -83,14 +77,25 @@ pub fn add_planes(book: &mut PlaneBook, solid: &BoxSolid) -> Result<(), AllocErr
     }
 }
 
-/// The book of an element of boxes: from number 6 on it has the planes of the element, and no others. The error is want of
-/// memory.
+/// Adds the planes of some solids.
+fn add_items(book: &mut PlaneBook, solids: &[BoxSolid]) -> Result<(), AllocError>
+    requires room { length book.old + length (all_planes (map tree_of solids.now)) ≤ 2 ^ 31 }
+    ensures { OnOk result (HasAdded book.old (all_planes (map tree_of solids.now)) book.new) }
+{
+    for solid in solids {
+        add_planes(book, solid)?;
+    }
+    Ok(())
+}
+
+/// The book of an element of boxes, by its items, which have at most 2^27 boxes: from number 6 on it has the planes of the
+/// element, and no others. The error is want of memory.
 #[tactic(auto, using(crate::proofs::BookLaws::book_of_element))]
-pub fn plane_book(alloc: Global, solid: &BoxSolid) -> Result<PlaneBook, AllocError>
-    ensures planes { IfOk result (ArePlanesOf (body_of (tree_of solid.now))) }
-    ensures size { IfOk result (λ book. length book ≤ 2 ^ 31) }
+pub fn plane_book(alloc: Global, solids: &[BoxSolid]) -> Result<PlaneBook, AllocError>
+    requires few { sum_by box_count (map tree_of solids.now) ≤ 2 ^ 27 }
+    ensures planes { IfOk result (ArePlanesOf (body_of (map tree_of solids.now))) }
 {
     let mut book = PlaneBook::new(alloc)?;
-    add_planes(&mut book, solid)?;
+    add_items(&mut book, solids)?;
     Ok(book)
 }

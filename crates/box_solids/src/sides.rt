@@ -1,4 +1,4 @@
-ghost use Rattle.std.specs.Prelude.{◌≡◌, ◌^◌, ◌≤◌, ◌<◌, ◌+◌, ◌&&◌, ℕ, length, slice_get, Some, Bool, true, false, not};
+ghost use Rattle.std.specs.Prelude.{◌≡◌, ◌^◌, ◌≤◌, ◌<◌, ◌+◌, ◌&&◌, ℕ, length, map, All, slice_get, Some, Bool, true, false, not};
 ghost use Rattle.spec_space.specs.declared.Plane.{Plane};
 ghost use Rattle.spec_space.specs.declared.Point.{Point};
 ghost use Rattle.spec_space.specs.Points.{IsPoint};
@@ -6,14 +6,15 @@ ghost use Rattle.spec_solid.specs.Solids.{truth, is_meant};
 ghost use Rattle.spec_solid.specs.Planes.{IsAlone, front_of, back_of};
 ghost use Rattle.plane_core.specs.Views.{plane_of};
 ghost use Rattle.plane_core.specs.declared.numbers.Plane.{Plane as BookPlane};
-ghost use Rattle.box_solids.specs.Trees.{Leaf, body_of, is_plane, is_in_front_across, told_by};
-ghost use Rattle.box_solids.specs.Views.{operator_of, tree_of};
+ghost use Rattle.box_solids.specs.Trees.{Leaf, body_of, is_plane, is_in_front_across, is_inside_by, is_inside_some_by};
+ghost use Rattle.box_solids.specs.Views.{tree_of};
 ghost use Rattle.box_solids.specs.Books.{HasNumber, HasWalls, AreFlagsOf, AreSidesOf};
 
-use crate::solids::{BoxSolid, Operator};
+use crate::solids::BoxSolid;
 use crate::walls::{has_walls, x_plane, y_plane, z_plane};
 use grid_boxes::Bounds;
 use plane_core::{PlaneBook, PlaneId};
+use spec_solid::BoolOp;
 use spec_space::Plane;
 
 /// Whether a plane of a book has the four numbers.
@@ -67,11 +68,11 @@ fn are_all(x: bool, y: bool, z: bool) -> bool
 }
 
 /// Whether the point lies in the box.
-fn told_box(book: &PlaneBook, bounds: &Bounds, in_front: &[bool]) -> bool
+fn is_in_box(book: &PlaneBook, bounds: &Bounds, in_front: &[bool]) -> bool
     requires known { HasWalls book.now (Leaf bounds.now) }
     requires size { length book.now ≤ 2 ^ 32 }
     requires flags { length in_front.now + 6 ≡ length book.now }
-    ensures { (sides : Plane → Bool) → AreFlagsOf book.now sides in_front.now → result ≡ told_by sides (Leaf bounds.now) }
+    ensures { (sides : Plane → Bool) → AreFlagsOf book.now sides in_front.now → result ≡ is_inside_by sides (Leaf bounds.now) }
 {
     if !has_walls(bounds) {
         return false;
@@ -84,50 +85,67 @@ fn told_box(book: &PlaneBook, bounds: &Bounds, in_front: &[bool]) -> bool
 }
 
 /// Whether the operator's solid has a point, by whether the two that it combines have it.
-fn truth(operator: Operator, first: bool, second: bool) -> bool
-    ensures { result ≡ truth (operator_of operator) first second }
+fn truth(operator: BoolOp, first: bool, second: bool) -> bool
+    ensures { result ≡ truth operator first second }
 {
     match operator {
-        Operator::Union => first || second,
-        Operator::Difference => first && !second,
+        BoolOp::Union => first || second,
+        BoolOp::Intersection => first && second,
+        BoolOp::Difference => first && !second,
     }
 }
 
 /// Whether the point lies in the solid.
-fn told_tree(book: &PlaneBook, solid: &BoxSolid, in_front: &[bool]) -> bool
+fn is_inside(book: &PlaneBook, solid: &BoxSolid, in_front: &[bool]) -> bool
     requires known { HasWalls book.now (tree_of solid.now) }
     requires size { length book.now ≤ 2 ^ 32 }
     requires flags { length in_front.now + 6 ≡ length book.now }
-    ensures { (sides : Plane → Bool) → AreFlagsOf book.now sides in_front.now → result ≡ told_by sides (tree_of solid.now) }
+    ensures { (sides : Plane → Bool) → AreFlagsOf book.now sides in_front.now → result ≡ is_inside_by sides (tree_of solid.now) }
 {
     match solid {
-        BoxSolid::Box(bounds) => told_box(book, bounds, in_front),
+        BoxSolid::Box(bounds) => is_in_box(book, bounds, in_front),
         BoxSolid::Combined {
             operator,
             first,
             second,
         } => {
-            let in_first = told_tree(book, first.get(), in_front);
-            let in_second = told_tree(book, second.get(), in_front);
+            let in_first = is_inside(book, first.get(), in_front);
+            let in_second = is_inside(book, second.get(), in_front);
             truth(*operator, in_first, in_second)
         }
     }
 }
 
-/// The meaning of the solid at a point, told by the sides of the planes on which the point lies: `in_front[k - 6]` says that
-/// it lies in front of the plane of number k in the book, which has all walls of the boxes. At a point on none of the planes
-/// this is the meaning of the element. For a point that is alone on a plane, with the flag of this plane set it is the meaning
-/// at the point's neighbour in front of the plane, and with the flag not set that at its neighbour behind.
-pub fn told(book: &PlaneBook, solid: &BoxSolid, in_front: &[bool]) -> bool
-    requires known { HasWalls book.now (tree_of solid.now) }
+/// Whether the point lies in some of the solids.
+fn is_inside_some(book: &PlaneBook, solids: &[BoxSolid], in_front: &[bool]) -> bool
+    requires known { All (HasWalls book.now) (map tree_of solids.now) }
     requires size { length book.now ≤ 2 ^ 32 }
     requires flags { length in_front.now + 6 ≡ length book.now }
-    ensures sides { (sides : Plane → Bool) → AreFlagsOf book.now sides in_front.now → result ≡ told_by sides (tree_of solid.now) }
-    ensures meaning { (q : Point) → IsPoint q → AreSidesOf book.now q in_front.now → result ≡ is_meant (body_of (tree_of solid.now)) q }
-    ensures ahead { (h : BookPlane) (p : Point) → IsPoint p → IsAlone (body_of (tree_of solid.now)) (plane_of h) p
-        → AreFlagsOf book.now (is_in_front_across (plane_of h) true p) in_front.now → result ≡ is_meant (body_of (tree_of solid.now)) (front_of (plane_of h) p) }
-    ensures behind { (h : BookPlane) (p : Point) → IsPoint p → IsAlone (body_of (tree_of solid.now)) (plane_of h) p
-        → AreFlagsOf book.now (is_in_front_across (plane_of h) false p) in_front.now → result ≡ is_meant (body_of (tree_of solid.now)) (back_of (plane_of h) p) }
+    ensures { (sides : Plane → Bool) → AreFlagsOf book.now sides in_front.now → result ≡ is_inside_some_by sides (map tree_of solids.now) }
 {
-    told_tree(book, solid, in_front)
+    for solid in solids {
+        if is_inside(book, solid, in_front) {
+            return true;
+        }
+    }
+    false
+}
+
+/// The meaning of an element of boxes at a point, by its items and the sides of the planes on which the point lies:
+/// `in_front[k - 6]` says that it lies in front of the plane of number k in the book, which has all walls of the boxes. At a
+/// point on none of the planes this is the meaning of the element. For a point that is alone on a plane, with the flag of
+/// this plane set it is the meaning at the point's neighbour in front of the plane, and with the flag not set that at its
+/// neighbour behind.
+pub fn meaning_by_sides(book: &PlaneBook, solids: &[BoxSolid], in_front: &[bool]) -> bool
+    requires known { All (HasWalls book.now) (map tree_of solids.now) }
+    requires size { length book.now ≤ 2 ^ 32 }
+    requires flags { length in_front.now + 6 ≡ length book.now }
+    ensures sides { (sides : Plane → Bool) → AreFlagsOf book.now sides in_front.now → result ≡ is_inside_some_by sides (map tree_of solids.now) }
+    ensures meaning { (q : Point) → IsPoint q → AreSidesOf book.now q in_front.now → result ≡ is_meant (body_of (map tree_of solids.now)) q }
+    ensures ahead { (h : BookPlane) (p : Point) → IsPoint p → IsAlone (body_of (map tree_of solids.now)) (plane_of h) p
+        → AreFlagsOf book.now (is_in_front_across (plane_of h) true p) in_front.now → result ≡ is_meant (body_of (map tree_of solids.now)) (front_of (plane_of h) p) }
+    ensures behind { (h : BookPlane) (p : Point) → IsPoint p → IsAlone (body_of (map tree_of solids.now)) (plane_of h) p
+        → AreFlagsOf book.now (is_in_front_across (plane_of h) false p) in_front.now → result ≡ is_meant (body_of (map tree_of solids.now)) (back_of (plane_of h) p) }
+{
+    is_inside_some(book, solids, in_front)
 }

@@ -1,14 +1,6 @@
 use grid_boxes::Bounds;
+use spec_solid::BoolOp;
 use sqlite_items::Boxed;
-
-/// The Boolean operators of IFC4 (IfcBooleanResult) that make solids of boxes.
-#[derive(Clone, Copy, Debug, PartialEq, Eq)]
-pub enum Operator {
-    /// What lies in one of the two, or in both.
-    Union,
-    /// What lies in the first and not in the second.
-    Difference,
-}
 
 /// A solid that is made of boxes, in whole grid steps.
 #[derive(Debug, Drop)]
@@ -17,7 +9,7 @@ pub enum BoxSolid {
     Box(Bounds),
     /// What an operator makes of two solids (IFC4, IfcBooleanResult).
     Combined {
-        operator: Operator,
+        operator: BoolOp,
         first: Boxed<BoxSolid>,
         second: Boxed<BoxSolid>,
     },

@@ -10,7 +10,7 @@ use Rattle.spec_space.specs.declared.Point.{Point}
 use Rattle.spec_space.specs.declared.Plane.{Plane}
 use Rattle.spec_space.specs.declared.Vector.{Vector}
 use Rattle.spec_space.specs.Points.{IsPoint, value, normal, dot, cross, way_between}
-use Rattle.plane_core.proofs.Cancel.{sign_cases}
+use Rattle.integer_laws.proofs.Cancel.{sign_cases}
 use Rattle.convex_cycles.specs.Areas.{AreSpread}
 use Rattle.convex_cycles.specs.Cycles.{Step, IsEdgeOf, Follows, turn}
 

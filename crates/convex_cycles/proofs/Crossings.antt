@@ -5,8 +5,8 @@ use Rattle.integer_laws.proofs.Ring.{var, con, neg, ◌⊕◌, ◌⊗◌, ring}
 use Rattle.spec_space.specs.declared.Point.{Point}
 use Rattle.spec_space.specs.declared.Plane.{Plane}
 use Rattle.spec_space.specs.Points.{IsPoint, value}
-use Rattle.plane_core.specs.Points.{times, plus}
-use Rattle.plane_core.proofs.Laws.{value_scaled, value_linear}
+use Rattle.spec_space.specs.Sums.{times, plus}
+use Rattle.convex_cycles.proofs.Values.{value_scaled, value_linear}
 use Rattle.convex_cycles.proofs.Orders.{weaker, turned_weakly, positive_mix, nonneg_mix, zero_mix}
 
 -- ---- sides

@@ -5,7 +5,7 @@ use Rattle.std.proofs.lemmas.Int.{ints}
 use Rattle.spec_space.specs.declared.Point.{Point}
 use Rattle.spec_space.specs.declared.Plane.{Plane}
 use Rattle.spec_space.specs.Points.{IsPoint, value, opposite}
-use Rattle.plane_core.proofs.Cancel.{sign_cases}
+use Rattle.integer_laws.proofs.Cancel.{sign_cases}
 use Rattle.convex_cycles.specs.Sides.{is_in_front, IsWithin, IsTouching}
 use Rattle.convex_cycles.specs.Cycles.{Step, AreConvex}
 use Rattle.convex_cycles.proofs.Lists.{Each, Member, each_from_members, each_from_all, all_from_each, each_joined}

@@ -5,8 +5,8 @@ use Rattle.integer_laws.proofs.Ring.{var, ◌⊕◌, ◌⊗◌, ◌⊖◌, ring,
 use Rattle.spec_space.specs.declared.Point.{Point}
 use Rattle.spec_space.specs.declared.Plane.{Plane}
 use Rattle.spec_space.specs.Points.{value}
-use Rattle.plane_core.proofs.Cancel.{mul_zero_right, zero_right}
-use Rattle.plane_core.proofs.Cramer as C
+use Rattle.integer_laws.proofs.Cancel.{mul_zero_right, zero_right}
+use Rattle.integer_laws.proofs.Cramer as C
 use Rattle.convex_cycles.specs.Cycles.{Step, IsEdgeOf, turn}
 use Rattle.convex_cycles.proofs.Lists.{Member, each_member}
 use Rattle.convex_cycles.proofs.Quotes.{valuee}

@@ -6,8 +6,8 @@ use Rattle.integer_laws.proofs.Signs.{mul_positive, square_positive}
 use Rattle.spec_space.specs.declared.Point.{Point}
 use Rattle.spec_space.specs.declared.Plane.{Plane}
 use Rattle.spec_space.specs.Points.{value}
-use Rattle.plane_core.specs.Numbers.{det2}
-use Rattle.plane_core.proofs.Cancel.{sign_cases, mul_zero_right}
+use Rattle.integer_laws.specs.Determinants.{det2}
+use Rattle.integer_laws.proofs.Cancel.{sign_cases, mul_zero_right}
 use Rattle.convex_cycles.specs.Cycles.{turn}
 use Rattle.convex_cycles.proofs.Lists.{Each, Member, each_member}
 use Rattle.convex_cycles.proofs.Orders.{not_level}

@@ -6,7 +6,7 @@ use Rattle.integer_laws.proofs.Signs.{mul_nonneg}
 use Rattle.spec_space.specs.declared.Point.{Point}
 use Rattle.spec_space.specs.declared.Plane.{Plane}
 use Rattle.spec_space.specs.Points.{IsPoint, value, opposite}
-use Rattle.plane_core.proofs.Cancel.{sign_cases, mul_nonpos}
+use Rattle.integer_laws.proofs.Cancel.{sign_cases, mul_nonpos}
 use Rattle.convex_cycles.specs.Cycles.{Step}
 use Rattle.convex_cycles.proofs.Lists.{Each, Member, each_member, each_from_members}
 use Rattle.convex_cycles.proofs.Orders.{weaker, below, level, level_below, turned_up, turned_weakly, negative_sign, not_both, sum_positive_second, positive_unless}

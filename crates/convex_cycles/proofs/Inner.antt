@@ -4,8 +4,8 @@ use Rattle.std.proofs.lemmas.Int.{ints}
 use Rattle.spec_space.specs.declared.Point.{Point}
 use Rattle.spec_space.specs.declared.Plane.{Plane}
 use Rattle.spec_space.specs.Points.{IsPoint, value}
-use Rattle.plane_core.specs.Points.{plus}
-use Rattle.plane_core.proofs.Laws.{value_linear}
+use Rattle.spec_space.specs.Sums.{plus}
+use Rattle.convex_cycles.proofs.Values.{value_linear}
 use Rattle.integer_laws.proofs.Signs.{mul_nonneg}
 use Rattle.convex_cycles.specs.Cycles.{Step}
 use Rattle.convex_cycles.proofs.Lists.{Each, Member}

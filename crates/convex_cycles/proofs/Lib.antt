@@ -25,3 +25,4 @@ pub mod Rounds
 pub mod Segments
 pub mod Spares
 pub mod Turns
+pub mod Values

@@ -2,7 +2,7 @@
 use Rattle.std.proofs.Common.{◌≡◌, ℤ, pos, neg_ℤ, ◌+ℤ◌, ◌*ℤ◌, ◌-ℤ◌, ◌<ℤ◌, ◌≤ℤ◌, inl, inr, arith}
 use Rattle.std.proofs.lemmas.Int.{ints}
 use Rattle.integer_laws.proofs.Signs.{mul_positive, mul_nonneg}
-use Rattle.plane_core.proofs.Cancel.{sign_cases}
+use Rattle.integer_laws.proofs.Cancel.{sign_cases}
 
 -- ---- one number and 0
 pub weaker : (x : ℤ) → pos 0 <ℤ x → pos 0 ≤ℤ x

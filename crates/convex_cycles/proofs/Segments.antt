@@ -5,9 +5,9 @@ use Rattle.integer_laws.proofs.Ring.{Expr, var, neg, ◌⊕◌, ◌⊗◌, ring,
 use Rattle.spec_space.specs.declared.Point.{Point}
 use Rattle.spec_space.specs.declared.Plane.{Plane}
 use Rattle.spec_space.specs.Points.{value}
-use Rattle.plane_core.specs.Numbers.{det3}
-use Rattle.plane_core.proofs.Cramer.{side_value}
-use Rattle.plane_core.proofs.Cancel.{sign_cases, mul_nonpos, nonpos_right}
+use Rattle.integer_laws.specs.Determinants.{det3}
+use Rattle.integer_laws.proofs.Cramer.{side_value}
+use Rattle.integer_laws.proofs.Cancel.{sign_cases, mul_nonpos, nonpos_right}
 use Rattle.convex_cycles.proofs.Quotes.{valuee, det3e}
 use Rattle.convex_cycles.proofs.Orders.{weaker, turned_up}
 

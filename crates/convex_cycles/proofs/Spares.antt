@@ -5,7 +5,7 @@ use Rattle.integer_laws.proofs.Signs.{mul_positive, mul_nonneg}
 use Rattle.spec_space.specs.declared.Point.{Point}
 use Rattle.spec_space.specs.declared.Plane.{Plane}
 use Rattle.spec_space.specs.Points.{value}
-use Rattle.plane_core.proofs.Cancel.{sign_cases}
+use Rattle.integer_laws.proofs.Cancel.{sign_cases}
 use Rattle.convex_cycles.proofs.Lists.{Each, each_weaker}
 use Rattle.convex_cycles.proofs.Orders.{weaker, below, level, level_below, turned_weakly, not_both, sum_nonneg, positive_mix, zero_mix}
 use Rattle.convex_cycles.proofs.Crossings.{In, Touches, crossing, crossing-value, crossing_on, crossing_nonneg}

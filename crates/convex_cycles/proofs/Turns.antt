@@ -6,7 +6,7 @@ use Rattle.integer_laws.proofs.Signs.{mul_positive, mul_nonneg}
 use Rattle.spec_space.specs.declared.Point.{Point}
 use Rattle.spec_space.specs.declared.Plane.{Plane}
 use Rattle.spec_space.specs.Points.{IsPoint, value}
-use Rattle.plane_core.proofs.Cancel.{mul_nonpos, positive_right, zero_right}
+use Rattle.integer_laws.proofs.Cancel.{mul_nonpos, positive_right, zero_right}
 use Rattle.convex_cycles.specs.Cycles.{turn, Step, IsEdgeOf}
 use Rattle.convex_cycles.proofs.Quotes.{valuee, turne}
 use Rattle.convex_cycles.proofs.Orders.{weaker, level_below, turned_up, turned_down, turned_weakly, difference_positive, difference_negative, first_of_sum, positive_unless}

@@ -4,7 +4,7 @@ ghost use Rattle.spec_table.specs.Sections.{IsSimple};
 ghost use Rattle.spec_expression.specs.Sizes.{IsExtent};
 ghost use Rattle.spec_entity.specs.Reads.{if_unset, members};
 ghost use Rattle.spec_entity.specs.Units.{nanometres, length_within, positive};
-ghost use Rattle.step_table.specs.Answers.{lent};
+ghost use Rattle.step_table.specs.Answers.{as_reading};
 ghost use Rattle.entity_reader.specs.Lent.{plain_read};
 
 use crate::kinds::refusal_of;

@@ -1,7 +1,7 @@
 ghost use Rattle.std.specs.Prelude.{◌≡◌, ◌≤◌, IsTrue, IfSome, IfOk};
 ghost use Rattle.spec_table.specs.Sections.{IsSimple};
 ghost use Rattle.spec_entity.specs.Units.{says, first_project, length_unit_in, first_length_unit, is_length_unit, is_millimetre, unit_of, length_unit};
-ghost use Rattle.step_table.specs.Answers.{lent_if_set};
+ghost use Rattle.step_table.specs.Answers.{as_reading_if_set};
 
 use crate::kinds::{has_kind, is_one_of, named_instance};
 use crate::numbers::members;
@@ -13,7 +13,7 @@ use step_table::Table;
 
 /// Whether an attribute is this enumeration, in letters of any case.
 fn says(reading: Result<Option<&[u8]>, AttrFault>, word: &[u8]) -> bool
-    ensures { result ≡ says word.now (lent_if_set reading.entry) }
+    ensures { result ≡ says word.now (as_reading_if_set reading.entry) }
 {
     match reading {
         Ok(Some(text)) => text.eq_ignore_ascii_case(word),

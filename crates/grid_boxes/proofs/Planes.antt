@@ -4,7 +4,8 @@ use Rattle.std.specs.Prelude.{◌≢◌}
 use Rattle.std.proofs.lemmas.Int.{ints}
 use Rattle.spec_space.specs.declared.Plane.{Plane}
 use Rattle.spec_solid.specs.Triangles.{turn}
-use Rattle.spec_solid.specs.Planes.{plane_through, upright_plane, LeadsPositive, IsTimes, IsReduced}
+use Rattle.spec_space.specs.Reduced.{LeadsPositive, IsTimes, IsReduced}
+use Rattle.spec_solid.specs.Planes.{plane_through, upright_plane}
 use Rattle.grid_boxes.specs.Boxes.{place}
 use Rattle.grid_boxes.proofs.BoxPlanes.{plane_of, side_x, side_y, side_z}
 use Rattle.integer_laws.proofs.Ring.{*ℤ_assoc, neg_ℤ-*ℤ}

@@ -1,6 +1,6 @@
 -- Numbers that code computes in 128 bits: which whole number each is, and a bound on its size.
 -- A value that code has passed or computed stands in a goal as `to_z w128 (of_z w128 z)`.
-use Rattle.std.proofs.Common.{◌≡◌, ℕ, ◌+◌, ◌*◌, ◌≤◌, ◌^◌, ℤ, ◌+ℤ◌, ◌*ℤ◌, ◌-ℤ◌, unsigned_abs, FitsSigned, T, ltb, ltb→lt, to_z, of_z, ap, ap₂, ◌∙◌, sym, subst}
+use Rattle.std.proofs.Common.{◌≡◌, ℕ, ◌+◌, ◌*◌, ◌≤◌, ◌^◌, ℤ, pos, ◌+ℤ◌, ◌*ℤ◌, ◌-ℤ◌, unsigned_abs, FitsSigned, T, ltb, ltb→lt, to_z, of_z, ap, ap₂, ◌∙◌, sym, subst}
 use Rattle.std.proofs.lemmas.Int.{to_z-of_z}
 use mir.Syntax.{w128}
 use Rattle.integer_laws.proofs.Sizes.{size_add, size_sub, size_mul, fits_by_size}
@@ -29,3 +29,7 @@ product {x} {y} {u} {v} {m} {n} p q = record { is = ap₂ (λ a b. a *ℤ b) p.i
 
 pub fits : {z v : ℤ} {n : ℕ} → Is z v n → T (ltb n (2 ^ 127)) → FitsSigned w128 z
 fits {z} {v} {n} h t = subst (λ x. FitsSigned w128 x) (sym h.is) (fits_by_size v n h.size (ltb→lt n (2 ^ 127) t))
+
+-- a number whose bits are 0
+pub zero_bits : (z : ℤ) → FitsSigned w128 z → of_z w128 z ≡ 0 → z ≡ pos 0
+zero_bits z f e = sym (to_z-of_z w128 z f) ∙ ap (to_z w128) e

@@ -2,3 +2,4 @@ pub mod Digits
 pub mod Division
 pub mod Far
 pub mod Rounding
+pub mod Roots

@@ -9,7 +9,7 @@ use Rattle.spec_space.specs.declared.Plane.{Plane}
 use Rattle.spec_space.specs.declared.Vector.{Vector}
 use Rattle.spec_space.specs.Points.{IsPoint, value, normal, cross, way_between, opposite}
 use Rattle.spec_page.specs.Faces.{GoesAlong}
-use Rattle.plane_core.proofs.Cancel.{sign_cases, positive_right}
+use Rattle.integer_laws.proofs.Cancel.{sign_cases, positive_right}
 use Rattle.convex_cycles.specs.Cycles.{turn}
 use Rattle.convex_cycles.proofs.Quotes.{turne}
 use Rattle.convex_cycles.proofs.Turns.{change, change_to, in_proportion}

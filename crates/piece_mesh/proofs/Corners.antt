@@ -5,7 +5,7 @@ use Rattle.std.specs.Bool.{Decides}
 use Rattle.std.specs.List.{IsDistinct}
 use mathlib.Core.HLevel.{is_prop→PathP}
 use Rattle.std.proofs.lemmas.Bool.Decides.{Decides-int_eq}
-use Rattle.std.proofs.lemmas.List.{take_more}
+use Rattle.std.proofs.lemmas.List.{take_more, append-nil}
 use Rattle.std.proofs.lemmas.Map.Made.{AllPairs-from_IsDistinct}
 use Rattle.plane_core.specs.Numbers.{AreCoprime}
 use Rattle.plane_core.specs.declared.numbers.Corner.{Corner}
@@ -79,6 +79,9 @@ at_next old new ps next around i place c below item grown at items a =
     subst (λ qs. AreAt new qs (take (i + 1) around)) (sym items)
     (subst (AreAt new (ps ++ place ∷ [])) (sym (take_more around i c below ∙ ap (λ d. take i around ++ d ∷ []) (sym item)))
     (at_push new ps (take i around) place c (subst (λ keys. AreAt keys ps (take i around)) (sym grown.1) (at_append old grown.0 ps (take i around) a)) at))
+
+pub grown_itself : (corners : List Corner) → IsGrown corners corners
+grown_itself corners = ([], sym (append-nil corners))
 
 pub grown_next : (old mid new : List Corner) → IsGrown old mid → IsGrown mid new → IsGrown old new
 grown_next old mid new g h = (g.0 ++ h.0, h.1 ∙ ap (λ cs. cs ++ h.0) g.1 ∙ append_assoc old g.0 h.0)

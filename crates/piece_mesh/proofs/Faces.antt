@@ -9,7 +9,7 @@ use Rattle.std.proofs.lemmas.List.{length-map}
 use Rattle.integer_laws.proofs.Products.{size_zero}
 use Rattle.spec_space.specs.declared.Point.{Point}
 use Rattle.spec_space.specs.declared.Plane.{Plane}
-use Rattle.spec_space.specs.Points.{IsPoint, value, opposite}
+use Rattle.spec_space.specs.Points.{value, opposite}
 use Rattle.spec_page.specs.declared.Corner.{Corner as PageCorner}
 use Rattle.spec_page.specs.Element.{Face, Element}
 use Rattle.spec_page.specs.Faces.{no_corner, corner_at, face_points, rotated, IsEdge, AreEdges, IsFull, lies_on}
@@ -150,7 +150,7 @@ true_all test [] e = refl
 true_all test (x ∷ xs) e = and_true (test x) (list_all test xs) e.0 (true_all test xs e.1)
 
 -- what holds of all edges holds of them in the order in which they are seen
-each_seen : (P : Edge → Type 0) (front_out : Bool) (edges : List Edge) → Each P edges → Each P (edges_seen front_out edges)
+pub each_seen : (P : Edge → Type 0) (front_out : Bool) (edges : List Edge) → Each P edges → Each P (edges_seen front_out edges)
 each_seen P true edges e = e
 each_seen P false edges e = each_rotated P (reverse edges) (each_reverse P edges e)
 
@@ -240,10 +240,6 @@ face_kept planes f front_out old new face grown is = record {
 same_point : (c d : Corner) → point_of c ≡ point_of d → c ≡ d
 same_point c d e = same_corner c d (ap (λ p. p.x) e) (ap (λ p. p.y) e) (ap (λ p. p.z) e) (ap (λ p. p.w) e)
 
-points_positive : (corners : List Corner) → Each IsPoint (map point_of corners)
-points_positive [] = tt
-points_positive (c ∷ cs) = (c.positive, points_positive cs)
-
 pair_map : {X Y : Type 0} (f : X → Y) → ((x y : X) → f x ≡ f y → x ≡ y) → (xs : List X) → EachPair (λ x y. x ≢ y) xs → EachPair (λ x y. x ≢ y) (map f xs)
 pair_map f one [] e = tt
 pair_map f one (x ∷ xs) e = (each_map (λ y. f x ≢ y) f xs (each_weaker (λ y. x ≢ y) (λ y. f x ≢ f y) (λ y apart same. apart (one x y same)) xs e.0), pair_map f one xs e.1)
@@ -253,9 +249,6 @@ pair_from_map f [] e = tt
 pair_from_map f (x ∷ xs) e = (each_from_map (λ y. f x ≢ y) f xs e.0, pair_from_map f xs e.1)
 
 module _ (e : Element) (corners : List Corner) (same : HasCorners e corners) where
-  pub exact-IsPoint : All (λ c. IsPoint c.exact) e.corners
-  exact-IsPoint = all_from_each (λ c. IsPoint c.exact) e.corners (each_from_map IsPoint (λ (c : PageCorner). c.exact) e.corners (subst (Each IsPoint) (sym same) (points_positive corners)))
-
   pub exact_differ : AreDistinct corners → AllPairs (λ c d. c.exact ≢ d.exact) e.corners
   exact_differ distinct = all_from_pair (λ c d. c.exact ≢ d.exact) e.corners (pair_from_map (λ (c : PageCorner). c.exact) e.corners
       (subst (EachPair (λ p q. p ≢ q)) (sym same) (pair_map point_of same_point corners (pair_from_all (λ c d. c ≢ d) corners distinct))))

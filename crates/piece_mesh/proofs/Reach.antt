@@ -8,7 +8,7 @@ use Rattle.spec_space.specs.Points.{IsPoint, value}
 use Rattle.spec_page.specs.Element.{Face}
 use Rattle.plane_core.specs.declared.numbers.Plane.{Plane as BookPlane}
 use Rattle.plane_core.specs.declared.numbers.Corner.{Corner}
-use Rattle.plane_core.specs.Points.{IsSamePoint}
+use Rattle.spec_space.specs.Sums.{IsSamePoint}
 use Rattle.plane_core.specs.Views.{point_of}
 use Rattle.convex_cycles.specs.Cycles.{Step, IsEdgeOf}
 use Rattle.convex_cycles.proofs.Lists.{Each, each_from_all, each_both}

@@ -9,9 +9,9 @@ use Rattle.spec_space.specs.declared.Plane.{Plane}
 use Rattle.spec_space.specs.Points.{IsPoint, value, opposite}
 use Rattle.spec_page.specs.Faces.{rotated, IsEdge}
 use Rattle.plane_core.specs.declared.numbers.Corner.{Corner}
-use Rattle.plane_core.specs.Points.{IsSamePoint}
+use Rattle.spec_space.specs.Sums.{IsSamePoint}
 use Rattle.plane_core.specs.Views.{point_of}
-use Rattle.plane_core.proofs.Cancel.{zero_right, positive_right, nonpos_right, mul_nonpos}
+use Rattle.integer_laws.proofs.Cancel.{zero_right, positive_right, nonpos_right, mul_nonpos}
 use Rattle.convex_cycles.specs.Cycles.{Step, IsEdgeOf, AreChained, IsRound, Keeps, KeepEachOther, AreConvex, turn}
 use Rattle.convex_cycles.proofs.Lists.{Each, EachPair, Member, all_from_each, each_from_members, each_weaker}
 use Rattle.convex_cycles.proofs.Orders.{weaker, turned_down}

@@ -1,4 +1,4 @@
-ghost use Rattle.std.specs.Prelude.{◌≡◌, ◌++◌, ◌∷◌, [], Some, map, length, slice_get, IfOk, OnOk};
+ghost use Rattle.std.specs.Prelude.{◌≡◌, ◌++◌, ◌∷◌, [], Some, map, length, slice_get, IfOk, OnOk, OnErr};
 ghost use Rattle.spec_page.specs.Element.{Face};
 ghost use Rattle.exact_mesh.specs.Meshes.{face_of};
 ghost use Rattle.exact_mesh.specs.Order.{NamesNext, AreInFirstUse};
@@ -35,7 +35,8 @@ impl MeshBuilder {
 
     /// Adds the piece as a face, seen from outside: `front_out` says whether the front of the piece's plane is outside, or its
     /// back. The plane and the planes of the edges are turned outwards, and the corners go round to the left as seen from
-    /// outside. The error is want of memory.
+    /// outside. The error is want of memory, and then the faces are as before, while some corners may have been added.
+    #[tactic(auto, using(crate::proofs::Corners::grown_itself))]
     pub fn add_face(
         &mut self,
         alloc: Global,
@@ -45,10 +46,11 @@ impl MeshBuilder {
     ) -> Result<(), AllocError>
         requires cycle { IsCycle book.now frag.now }
         ensures face { OnOk result ((face : Face) × (faces_of self.new ≡ faces_of self.old ++ face ∷ []) × IsFaceOf book.now frag.now front_out (corners_of self.new) face) }
-        ensures corners { OnOk result (IsGrown (corners_of self.old) (corners_of self.new)) }
+        ensures corners { IsGrown (corners_of self.old) (corners_of self.new) }
         ensures distinct { OnOk result (AreDistinct (corners_of self.old) → AreDistinct (corners_of self.new)) }
         ensures order { OnOk result (AreInFirstUse (corners_of self.old) (faces_of self.old) → AreInFirstUse (corners_of self.new) (faces_of self.new)) }
         ensures used { OnOk result (AreUsed (corners_of self.old) (faces_of self.old) → AreUsed (corners_of self.new) (faces_of self.new)) }
+        ensures err { OnErr result (faces_of self.new ≡ faces_of self.old) }
     {
         let plane = outward_numbers(book.plane(frag.support), front_out);
         let edges = outward_edges(alloc, book, frag, front_out)?;

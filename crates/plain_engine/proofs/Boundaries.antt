@@ -19,7 +19,7 @@ use Rattle.poly_frag.specs.declared.frag.Frag.{Frag}
 use Rattle.plane_pieces.specs.Points.{holds}
 use Rattle.plane_pieces.specs.declared.sides.Piece.{Piece}
 use Rattle.plane_pieces.proofs.Held.{same_flag, inside_from_held, held_from_inside}
-use Rattle.box_solids.specs.Trees.{Tree, body_of, told_by, is_in_front_across}
+use Rattle.box_solids.specs.Trees.{Tree, body_of, is_inside_some_by, is_in_front_across}
 use Rattle.box_solids.specs.Books.{ArePlanesOf}
 use Rattle.box_solids.proofs.Neighbours.{neighbour_in_front, neighbour_behind}
 use Rattle.exact_mesh.specs.Order.{AreInFirstUse}
@@ -50,27 +50,27 @@ lies_held planes f front_out corners face is p =
     same_flag (lies_on face p) (holds planes f p) (λ e. held_from_inside planes f p (law.0 e)) (λ e. law.1 (inside_from_held planes f p e))
 
 -- ---- the boundary by the meanings on the two sides
-abbrev told_boundary : Bool → Bool → Plane → List Plane
-told_boundary in_front behind h = if behind then (if in_front then [] else h ∷ []) else (if in_front then opposite h ∷ [] else [])
+abbrev boundary_by : Bool → Bool → Plane → List Plane
+boundary_by in_front behind h = if behind then (if in_front then [] else h ∷ []) else (if in_front then opposite h ∷ [] else [])
 
-same_boundary : (in_front behind : Bool) (h k : Plane) → h ≡ k → told_boundary in_front behind h ≡ told_boundary in_front behind k
-same_boundary in_front behind h k e = ap (told_boundary in_front behind) e
+same_boundary : (in_front behind : Bool) (h k : Plane) → h ≡ k → boundary_by in_front behind h ≡ boundary_by in_front behind k
+same_boundary in_front behind h k e = ap (boundary_by in_front behind) e
 
 -- a face turned outwards has the boundary's plane
-one_boundary : (in_front behind : Bool) (h : Plane) → in_front ≢ behind → kept_side behind h ∷ [] ≡ told_boundary in_front behind h
+one_boundary : (in_front behind : Bool) (h : Plane) → in_front ≢ behind → kept_side behind h ∷ [] ≡ boundary_by in_front behind h
 one_boundary true true h ne = absurd (ne refl)
 one_boundary false true h ne = refl
 one_boundary true false h ne = refl
 one_boundary false false h ne = absurd (ne refl)
 
-no_boundary : (in_front behind : Bool) (h : Plane) → in_front ≡ behind → told_boundary in_front behind h ≡ []
+no_boundary : (in_front behind : Bool) (h : Plane) → in_front ≡ behind → boundary_by in_front behind h ≡ []
 no_boundary true true h e = refl
 no_boundary true false h e = cc
 no_boundary false true h e = cc
 no_boundary false false h e = refl
 
-module _ (planes : List BookPlane) (s : Tree) (of : ArePlanesOf (body_of s) planes) (f : Frag) (fragment : IsFragment planes f) (own : 6 ≤ f.support.k)
-    (in_front behind : Bool) (are : AreMeanings planes s f in_front behind) (h : Plane) (p : Point) (is : IsPoint p) (alone : IsAlone (body_of s) h p) where
+module _ (planes : List BookPlane) (ss : List Tree) (of : ArePlanesOf (body_of ss) planes) (f : Frag) (fragment : IsFragment planes f) (own : 6 ≤ f.support.k)
+    (in_front behind : Bool) (are : AreMeanings planes ss f in_front behind) (h : Plane) (p : Point) (is : IsPoint p) (alone : IsAlone (body_of ss) h p) where
   -- the point is alone on the plane of the piece that has it strictly inside
   own_plane : IsInside planes f p → support_of planes f ≡ h
   own_plane inside =
@@ -78,44 +78,44 @@ module _ (planes : List BookPlane) (s : Tree) (of : ArePlanesOf (body_of s) plan
       let same : support_of planes f ≡ plane_of b.0 = ap numbered b.1 in
       same ∙ alone.2 (plane_of b.0) (of.given f.support.k b.0 own b.1) (subst (λ k. value k p ≡ pos 0) same inside.0)
 
-  boundary_told : IsInside planes f p → boundary_at (body_of s) h p ≡ told_boundary in_front behind h
-  boundary_told inside =
+  boundary_at-inside : IsInside planes f p → boundary_at (body_of ss) h p ≡ boundary_by in_front behind h
+  boundary_at-inside inside =
       let b = plane_given planes f.support.k fragment.cycle.support_given in
       let same : support_of planes f ≡ plane_of b.0 = ap numbered b.1 in
       let here : plane_of b.0 ≡ h = sym same ∙ own_plane inside in
-      let lone : IsAlone (body_of s) (plane_of b.0) p = subst (λ k. IsAlone (body_of s) k p) (sym here) alone in
-      let front : is_meant (body_of s) (front_of h p) ≡ in_front = ap (λ k. is_meant (body_of s) (front_of k p)) (sym here) ∙ neighbour_in_front s b.0 p is lone
-      ∙ sym ((are p is inside).front ∙ ap (λ k. told_at_front k) same) in
-      let back : is_meant (body_of s) (back_of h p) ≡ behind = ap (λ k. is_meant (body_of s) (back_of k p)) (sym here) ∙ neighbour_behind s b.0 p is lone
-      ∙ sym ((are p is inside).back ∙ ap (λ k. told_at_back k) same) in
-      ap₂ (λ i j. told_boundary i j h) front back
+      let lone : IsAlone (body_of ss) (plane_of b.0) p = subst (λ k. IsAlone (body_of ss) k p) (sym here) alone in
+      let front : is_meant (body_of ss) (front_of h p) ≡ in_front = ap (λ k. is_meant (body_of ss) (front_of k p)) (sym here) ∙ neighbour_in_front ss b.0 p is lone
+      ∙ sym ((are p is inside).front ∙ ap (λ k. front_meaning k) same) in
+      let back : is_meant (body_of ss) (back_of h p) ≡ behind = ap (λ k. is_meant (body_of ss) (back_of k p)) (sym here) ∙ neighbour_behind ss b.0 p is lone
+      ∙ sym ((are p is inside).back ∙ ap (λ k. back_meaning k) same) in
+      ap₂ (λ i j. boundary_by i j h) front back
     where
-      told_at_front : Plane → Bool
-      told_at_front k = told_by (is_in_front_across k true p) s
+      front_meaning : Plane → Bool
+      front_meaning k = is_inside_some_by (is_in_front_across k true p) ss
 
-      told_at_back : Plane → Bool
-      told_at_back k = told_by (is_in_front_across k false p) s
+      back_meaning : Plane → Bool
+      back_meaning k = is_inside_some_by (is_in_front_across k false p) ss
 
   -- the face of a piece across which the meaning differs
   pub face_adds : (corners : List Corner) (face : Face) → IsFaceOf planes f behind corners face → in_front ≢ behind
-      → planes_at (face ∷ []) p ≡ (if holds planes f p then boundary_at (body_of s) h p else [])
+      → planes_at (face ∷ []) p ≡ (if holds planes f p then boundary_at (body_of ss) h p else [])
   face_adds corners face face_of ne = by (holds planes f p) refl
     where
-      by : (t : Bool) → holds planes f p ≡ t → planes_at (face ∷ []) p ≡ (if t then boundary_at (body_of s) h p else [])
+      by : (t : Bool) → holds planes f p ≡ t → planes_at (face ∷ []) p ≡ (if t then boundary_at (body_of ss) h p else [])
       by true e =
           let inside = inside_from_held planes f p e in
           planes_at_one face p true (lies_held planes f behind corners face face_of p ∙ e)
           ∙ ap (λ k. k ∷ []) (face_of.plane ∙ ap (kept_side behind) (own_plane inside))
           ∙ one_boundary in_front behind h ne
-          ∙ sym (boundary_told inside)
+          ∙ sym (boundary_at-inside inside)
       by false e = planes_at_one face p false (lies_held planes f behind corners face face_of p ∙ e)
 
   -- a piece across which it does not
-  pub none_adds : in_front ≡ behind → [] ≡ (if holds planes f p then boundary_at (body_of s) h p else [])
+  pub none_adds : in_front ≡ behind → [] ≡ (if holds planes f p then boundary_at (body_of ss) h p else [])
   none_adds same = by (holds planes f p) refl
     where
-      by : (t : Bool) → holds planes f p ≡ t → [] ≡ (if t then boundary_at (body_of s) h p else [])
-      by true e = sym (boundary_told (inside_from_held planes f p e) ∙ no_boundary in_front behind h same)
+      by : (t : Bool) → holds planes f p ≡ t → [] ≡ (if t then boundary_at (body_of ss) h p else [])
+      by true e = sym (boundary_at-inside (inside_from_held planes f p e) ∙ no_boundary in_front behind h same)
       by false e = refl
 
 pub append_none : {X : Type 0} (xs : List X) → xs ≡ xs ++ []
@@ -123,17 +123,17 @@ append_none [] = refl
 append_none (x ∷ xs) = ap (λ ys. x ∷ ys) (append_none xs)
 
 -- ---- a mesh with one face more, or none
-pub piece_added : (planes : List BookPlane) (s : Tree) → ArePlanesOf (body_of s) planes → (q : Piece) → IsFragment planes q.frag → 6 ≤ q.frag.support.k
-    → (in_front behind : Bool) → AreMeanings planes s q.frag in_front behind → in_front ≢ behind
-    → (corners : List Corner) (old new : List Face) (face : Face) → new ≡ old ++ face ∷ [] → IsFaceOf planes q.frag behind corners face → AddsPiece planes (body_of s) q old new
-piece_added planes s of q fragment own in_front behind are ne corners old new face more is_face h p is alone =
-    ap (λ fs. planes_at fs p) more ∙ planes_at-append old (face ∷ []) p ∙ ap (λ hs. planes_at old p ++ hs) (face_adds planes s of q.frag fragment own in_front behind are h p is alone corners face is_face ne)
+pub piece_added : (planes : List BookPlane) (ss : List Tree) → ArePlanesOf (body_of ss) planes → (q : Piece) → IsFragment planes q.frag → 6 ≤ q.frag.support.k
+    → (in_front behind : Bool) → AreMeanings planes ss q.frag in_front behind → in_front ≢ behind
+    → (corners : List Corner) (old new : List Face) (face : Face) → new ≡ old ++ face ∷ [] → IsFaceOf planes q.frag behind corners face → AddsPiece planes (body_of ss) q old new
+piece_added planes ss of q fragment own in_front behind are ne corners old new face more is_face h p is alone =
+    ap (λ fs. planes_at fs p) more ∙ planes_at-append old (face ∷ []) p ∙ ap (λ hs. planes_at old p ++ hs) (face_adds planes ss of q.frag fragment own in_front behind are h p is alone corners face is_face ne)
 
-pub none_added : (planes : List BookPlane) (s : Tree) → ArePlanesOf (body_of s) planes → (q : Piece) → IsFragment planes q.frag → 6 ≤ q.frag.support.k
-    → (in_front behind : Bool) → AreMeanings planes s q.frag in_front behind → in_front ≡ behind
-    → (faces : List Face) → AddsPiece planes (body_of s) q faces faces
-none_added planes s of q fragment own in_front behind are same faces h p is alone =
-    append_none (planes_at faces p) ∙ ap (λ hs. planes_at faces p ++ hs) (none_adds planes s of q.frag fragment own in_front behind are h p is alone same)
+pub none_added : (planes : List BookPlane) (ss : List Tree) → ArePlanesOf (body_of ss) planes → (q : Piece) → IsFragment planes q.frag → 6 ≤ q.frag.support.k
+    → (in_front behind : Bool) → AreMeanings planes ss q.frag in_front behind → in_front ≡ behind
+    → (faces : List Face) → AddsPiece planes (body_of ss) q faces faces
+none_added planes ss of q fragment own in_front behind are same faces h p is alone =
+    append_none (planes_at faces p) ∙ ap (λ hs. planes_at faces p ++ hs) (none_adds planes ss of q.frag fragment own in_front behind are h p is alone same)
 
 -- a face of a mesh that has grown
 piece_face_kept : (planes : List BookPlane) (old new : List Corner) → IsGrown old new → (face : Face) → IsPieceFace planes old face → IsPieceFace planes new face

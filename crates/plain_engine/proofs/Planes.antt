@@ -63,17 +63,17 @@ found_nowhere planes p hs [] e = refl
 found_nowhere planes p hs (q ∷ qs) e = ap (λ t. (if t then hs else []) ++ found_in planes p hs qs) e.0 ∙ found_nowhere planes p hs qs e.1
 
 -- ---- the faces of the pieces so far
-pub record HasFound (planes : List BookPlane) (s : Tree) (qs : List Piece) (old new : List Face) : Type 0 where
-  pub found : (h : Plane) (p : Point) → IsPoint p → IsAlone (body_of s) h p → planes_at new p ≡ planes_at old p ++ found_in planes p (boundary_at (body_of s) h p) qs
+pub record HasFound (planes : List BookPlane) (ss : List Tree) (qs : List Piece) (old new : List Face) : Type 0 where
+  pub found : (h : Plane) (p : Point) → IsPoint p → IsAlone (body_of ss) h p → planes_at new p ≡ planes_at old p ++ found_in planes p (boundary_at (body_of ss) h p) qs
 
-pub none_found : (planes : List BookPlane) (s : Tree) (faces : List Face) → HasFound planes s [] faces faces
-none_found planes s faces = record { found = λ h p is alone. append_none (planes_at faces p) }
+pub none_found : (planes : List BookPlane) (ss : List Tree) (faces : List Face) → HasFound planes ss [] faces faces
+none_found planes ss faces = record { found = λ h p is alone. append_none (planes_at faces p) }
 
-pub next_found : (planes : List BookPlane) (s : Tree) (pieces : List Piece) (i : ℕ) (q : Piece) (old mid new : List Face) → i < length pieces → q ≡ get_or pieces i q
-    → HasFound planes s (take i pieces) old mid → AddsPiece planes (body_of s) q mid new → HasFound planes s (take (i + 1) pieces) old new
-next_found planes s pieces i q old mid new below item before adds = record {
+pub next_found : (planes : List BookPlane) (ss : List Tree) (pieces : List Piece) (i : ℕ) (q : Piece) (old mid new : List Face) → i < length pieces → q ≡ get_or pieces i q
+    → HasFound planes ss (take i pieces) old mid → AddsPiece planes (body_of ss) q mid new → HasFound planes ss (take (i + 1) pieces) old new
+next_found planes ss pieces i q old mid new below item before adds = record {
   found = λ h p is alone.
-      let hs = boundary_at (body_of s) h p in
+      let hs = boundary_at (body_of ss) h p in
       let one = if holds planes q.frag p then hs else [] in
       adds h p is alone
       ∙ ap (λ ks. ks ++ one) (before.found h p is alone)
@@ -82,8 +82,8 @@ next_found planes s pieces i q old mid new below item before adds = record {
       ∙ ap (λ qs. planes_at old p ++ found_in planes p hs qs) (ap (λ r. take i pieces ++ r ∷ []) item ∙ sym (take_more pieces i q below));
 }
 
-pub all_found : (planes : List BookPlane) (s : Tree) (pieces : List Piece) (i : ℕ) (old new : List Face) → length pieces ≤ i → HasFound planes s (take i pieces) old new → HasFound planes s pieces old new
-all_found planes s pieces i old new past found = subst (λ qs. HasFound planes s qs old new) (take_all i pieces past) found
+pub all_found : (planes : List BookPlane) (ss : List Tree) (pieces : List Piece) (i : ℕ) (old new : List Face) → length pieces ≤ i → HasFound planes ss (take i pieces) old new → HasFound planes ss pieces old new
+all_found planes ss pieces i old new past found = subst (λ qs. HasFound planes ss qs old new) (take_all i pieces past) found
 
 -- ---- a point inside the cube, or far out
 module _ (p : Point) where
@@ -129,38 +129,38 @@ far_outside p (far_up f) i = clash (pos 1048577 *ℤ p.w) p.z f i.z_high
     clash a b h k = omega (arith, ints)
 
 -- far out there is no boundary
-far_boundary : (s : Tree) (b : BookPlane) (p : Point) → IsPoint p → IsAlone (body_of s) (plane_of b) p → IsFar p → boundary_at (body_of s) (plane_of b) p ≡ []
-far_boundary s b p is alone far =
-    let out = outside_cube s b p is alone far in
+far_boundary : (ss : List Tree) (b : BookPlane) (p : Point) → IsPoint p → IsAlone (body_of ss) (plane_of b) p → IsFar p → boundary_at (body_of ss) (plane_of b) p ≡ []
+far_boundary ss b p is alone far =
+    let out = outside_cube ss b p is alone far in
     ap₂ (λ back front. if back then (if front then [] else plane_of b ∷ []) else (if front then opposite (plane_of b) ∷ [] else [])) out.1 out.0
 
 -- ---- one plane of the book
-module _ (planes : List BookPlane) (s : Tree) (of : ArePlanesOf (body_of s) planes) (distinct : AreDistinct planes) (support : PlaneId) (high : 6 ≤ support.k)
+module _ (planes : List BookPlane) (ss : List Tree) (of : ArePlanesOf (body_of ss) planes) (distinct : AreDistinct planes) (support : PlaneId) (high : 6 ≤ support.k)
     (pieces : List Piece) (own : All (λ q. q.frag.support ≡ support) pieces) (cover : CoverPlane planes support (length planes) pieces)
-    (old new : List Face) (all : HasFound planes s pieces old new) where
+    (old new : List Face) (all : HasFound planes ss pieces old new) where
   -- planes of two numbers that a lone point is on have one number
-  one_plane : (i j : ℕ) (b d : BookPlane) (p : Point) → 6 ≤ i → slice_get planes i ≡ Some d → slice_get planes j ≡ Some b → IsAlone (body_of s) (plane_of b) p → value (plane_of d) p ≡ pos 0 → i ≡ j
+  one_plane : (i j : ℕ) (b d : BookPlane) (p : Point) → 6 ≤ i → slice_get planes i ≡ Some d → slice_get planes j ≡ Some b → IsAlone (body_of ss) (plane_of b) p → value (plane_of d) p ≡ pos 0 → i ≡ j
   one_plane i j b d p least at_d at_b alone on =
       let same = alone.2 (plane_of d) (of.given i d least at_d) on in
       one_number planes i j b distinct (at_d ∙ ap Some (same_plane d b (ap (λ k. k.a) same) (ap (λ k. k.b) same) (ap (λ k. k.c) same) (ap (λ k. k.d) same))) at_b
 
-  off_below : (b : BookPlane) (p : Point) → slice_get planes support.k ≡ Some b → IsAlone (body_of s) (plane_of b) p → IsOffBelow planes support (length planes) p
+  off_below : (b : BookPlane) (p : Point) → slice_get planes support.k ≡ Some b → IsAlone (body_of ss) (plane_of b) p → IsOffBelow planes support (length planes) p
   off_below b p at alone id least below other on =
       let d = plane_given planes id.k below in
       other (one_plane id.k support.k b d.0 p least d.1 at alone (subst (λ k. value k p ≡ pos 0) (ap numbered d.1) on))
 
-  own_found : (b : BookPlane) → slice_get planes support.k ≡ Some b → (p : Point) → IsPoint p → IsAlone (body_of s) (plane_of b) p
-      → planes_at new p ≡ planes_at old p ++ boundary_at (body_of s) (plane_of b) p
+  own_found : (b : BookPlane) → slice_get planes support.k ≡ Some b → (p : Point) → IsPoint p → IsAlone (body_of ss) (plane_of b) p
+      → planes_at new p ≡ planes_at old p ++ boundary_at (body_of ss) (plane_of b) p
   own_found b at p is alone =
-      let hs = boundary_at (body_of s) (plane_of b) p in
+      let hs = boundary_at (body_of ss) (plane_of b) p in
       let covered = cover p is (subst (λ k. value k p ≡ pos 0) (sym (ap numbered at)) alone.1) (off_below b p at alone) in
       all.found (plane_of b) p is alone ∙ ap (λ ks. planes_at old p ++ ks) (elim (cube_cases p) [
         | inl i ↦ found_one planes p hs pieces (covered.0 i)
-        | inr far ↦ found_none planes p hs pieces (covered.1 (far_outside p far)) ∙ sym (far_boundary s b p is alone far)
+        | inr far ↦ found_none planes p hs pieces (covered.1 (far_outside p far)) ∙ sym (far_boundary ss b p is alone far)
       ])
 
   -- a point alone on another plane is in none of the pieces
-  held_nowhere : (j : ℕ) (b : BookPlane) → slice_get planes j ≡ Some b → j ≢ support.k → (p : Point) → IsAlone (body_of s) (plane_of b) p → support.k < length planes
+  held_nowhere : (j : ℕ) (b : BookPlane) → slice_get planes j ≡ Some b → j ≢ support.k → (p : Point) → IsAlone (body_of ss) (plane_of b) p → support.k < length planes
       → (qs : List Piece) → Each (λ q. q.frag.support ≡ support) qs → Each (λ q. holds planes q.frag p ≡ false) qs
   held_nowhere j b at other p alone given [] e = tt
   held_nowhere j b at other p alone given (q ∷ qs) e =
@@ -170,23 +170,23 @@ module _ (planes : List BookPlane) (s : Tree) (of : ArePlanesOf (body_of s) plan
         held_nowhere j b at other p alone given qs e.1,
       )
 
-  pub plane_added : support.k < length planes → AddsPlane planes (body_of s) support.k old new
+  pub plane_added : support.k < length planes → AddsPlane planes (body_of ss) support.k old new
   plane_added given = record {
     own = own_found;
     other = λ j b at other p is alone. all.found (plane_of b) p is alone
-        ∙ ap (λ ks. planes_at old p ++ ks) (found_nowhere planes p (boundary_at (body_of s) (plane_of b) p) pieces
+        ∙ ap (λ ks. planes_at old p ++ ks) (found_nowhere planes p (boundary_at (body_of ss) (plane_of b) p) pieces
         (held_nowhere j b at other p alone given pieces (each_from_all (λ q. q.frag.support ≡ support) pieces own)))
         ∙ sym (append_none (planes_at old p));
   }
 
 -- ---- all planes
 -- the boundary stands on the planes of numbers below k, and no face on others
-pub record HasBelow (planes : List BookPlane) (s : Tree) (k : ℕ) (faces : List Face) : Type 0 where
-  pub below : (j : ℕ) (b : BookPlane) → 6 ≤ j → slice_get planes j ≡ Some b → j < k → (p : Point) → IsPoint p → IsAlone (body_of s) (plane_of b) p → planes_at faces p ≡ boundary_at (body_of s) (plane_of b) p
-  pub above : (j : ℕ) (b : BookPlane) → slice_get planes j ≡ Some b → k ≤ j → (p : Point) → IsPoint p → IsAlone (body_of s) (plane_of b) p → planes_at faces p ≡ []
+pub record HasBelow (planes : List BookPlane) (ss : List Tree) (k : ℕ) (faces : List Face) : Type 0 where
+  pub below : (j : ℕ) (b : BookPlane) → 6 ≤ j → slice_get planes j ≡ Some b → j < k → (p : Point) → IsPoint p → IsAlone (body_of ss) (plane_of b) p → planes_at faces p ≡ boundary_at (body_of ss) (plane_of b) p
+  pub above : (j : ℕ) (b : BookPlane) → slice_get planes j ≡ Some b → k ≤ j → (p : Point) → IsPoint p → IsAlone (body_of ss) (plane_of b) p → planes_at faces p ≡ []
 
-pub none_below : (planes : List BookPlane) (s : Tree) (k : ℕ) (faces : List Face) → k ≡ 6 → faces ≡ [] → HasBelow planes s k faces
-none_below planes s k faces six none = record {
+pub none_below : (planes : List BookPlane) (ss : List Tree) (k : ℕ) (faces : List Face) → k ≡ 6 → faces ≡ [] → HasBelow planes ss k faces
+none_below planes ss k faces six none = record {
   below = λ j b least at less. absurd (clash j k six least less);
   above = λ j b at past p is alone. ap (λ fs. planes_at fs p) none;
 }
@@ -194,8 +194,8 @@ none_below planes s k faces six none = record {
     clash : (j k : ℕ) → k ≡ 6 → 6 ≤ j → j < k → ⊥
     clash j k e h l = omega arith
 
-pub next_below : (planes : List BookPlane) (s : Tree) (k : ℕ) (old new : List Face) → HasBelow planes s k old → AddsPlane planes (body_of s) k old new → HasBelow planes s (k + 1) new
-next_below planes s k old new before adds = record {
+pub next_below : (planes : List BookPlane) (ss : List Tree) (k : ℕ) (old new : List Face) → HasBelow planes ss k old → AddsPlane planes (body_of ss) k old new → HasBelow planes ss (k + 1) new
+next_below planes ss k old new before adds = record {
   below = λ j b least at less p is alone. by j b least at less p is alone;
   above = λ j b at past p is alone. adds.other j b at (apart j k past) p is alone ∙ before.above j b at (further j k past) p is alone;
 }
@@ -212,10 +212,10 @@ next_below planes s k old new before adds = record {
       | inr more ↦ inr (omega arith)
     ]
 
-    by : (j : ℕ) (b : BookPlane) → 6 ≤ j → slice_get planes j ≡ Some b → j < k + 1 → (p : Point) → IsPoint p → IsAlone (body_of s) (plane_of b) p → planes_at new p ≡ boundary_at (body_of s) (plane_of b) p
+    by : (j : ℕ) (b : BookPlane) → 6 ≤ j → slice_get planes j ≡ Some b → j < k + 1 → (p : Point) → IsPoint p → IsAlone (body_of ss) (plane_of b) p → planes_at new p ≡ boundary_at (body_of ss) (plane_of b) p
     by j b least at less p is alone = elim (last_or j k less) [
       | inl before_it ↦ adds.other j b at (below_apart j k before_it) p is alone ∙ before.below j b least at before_it p is alone
-      | inr here ↦ adds.own b (ap (slice_get planes) (sym here) ∙ at) p is alone ∙ ap (λ ks. ks ++ boundary_at (body_of s) (plane_of b) p) (before.above j b at (level j k here) p is alone)
+      | inr here ↦ adds.own b (ap (slice_get planes) (sym here) ∙ at) p is alone ∙ ap (λ ks. ks ++ boundary_at (body_of ss) (plane_of b) p) (before.above j b at (level j k here) p is alone)
     ]
       where
         below_apart : (j k : ℕ) → j < k → j ≢ k
@@ -224,16 +224,16 @@ next_below planes s k old new before adds = record {
         level : (j k : ℕ) → j ≡ k → k ≤ j
         level j k e = omega arith
 
-pub all_below : (planes : List BookPlane) (s : Tree) → ArePlanesOf (body_of s) planes → (k : ℕ) (faces : List Face) → length planes ≤ k → HasBelow planes s k faces
-    → (h : Plane) (p : Point) → IsPoint p → IsAlone (body_of s) h p → planes_at faces p ≡ boundary_at (body_of s) h p
-all_below planes s of k faces past all h p is alone =
+pub all_below : (planes : List BookPlane) (ss : List Tree) → ArePlanesOf (body_of ss) planes → (k : ℕ) (faces : List Face) → length planes ≤ k → HasBelow planes ss k faces
+    → (h : Plane) (p : Point) → IsPoint p → IsAlone (body_of ss) h p → planes_at faces p ≡ boundary_at (body_of ss) h p
+all_below planes ss of k faces past all h p is alone =
     let found = of.all h alone.0 in
     let n = found.0 in
     let b = found.1 in
     let at = found.3 in
     let same = found.4 in
-    subst (λ g. planes_at faces p ≡ boundary_at (body_of s) g p) same
-    (all.below n b found.2 at (within n (length planes) k (slice_get_within planes n b at) past) p is (subst (λ g. IsAlone (body_of s) g p) (sym same) alone))
+    subst (λ g. planes_at faces p ≡ boundary_at (body_of ss) g p) same
+    (all.below n b found.2 at (within n (length planes) k (slice_get_within planes n b at) past) p is (subst (λ g. IsAlone (body_of ss) g p) (sym same) alone))
   where
     within : (n l k : ℕ) → n < l → l ≤ k → n < k
     within n l k h e = omega arith

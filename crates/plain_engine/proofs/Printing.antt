@@ -19,6 +19,7 @@ use Rattle.spec_page.specs.Element.{Face, Element, world_frame}
 use Rattle.spec_page.specs.Faces.{IsFull}
 use Rattle.spec_page.specs.World.{rounded_image}
 use Rattle.spec_headline.specs.Headline.{IsPrintOf}
+use Rattle.spec_headline.specs.Reduced.{IsPrintedPlane}
 use Rattle.plane_core.specs.declared.numbers.Plane.{Plane as BookPlane}
 use Rattle.plane_core.specs.declared.numbers.Corner.{Corner}
 use Rattle.plane_core.specs.Views.{point_of}
@@ -37,11 +38,12 @@ use Rattle.piece_mesh.specs.Sizes.{IsWithinReach}
 use Rattle.piece_mesh.proofs.Rows.{map-append}
 use Rattle.piece_mesh.proofs.Reach.{corners-AreWithinReach}
 use Rattle.piece_mesh.proofs.Scaled.{x_image, y_image, z_image}
-use Rattle.piece_mesh.proofs.Faces.{HasCorners, face-IsFull, exact-IsPoint, exact_differ, exact_used}
+use Rattle.piece_mesh.proofs.Faces.{HasCorners, face-IsFull, exact_differ, exact_used}
 use Rattle.plain_engine.specs.Parts.{IsPieceFace, IsPartMesh, IsWholeMesh}
 use Rattle.plain_engine.specs.Prints.{page_corners, element_of}
 use Rattle.plain_engine.specs.declared.mesh.PrintedMesh.{PrintedMesh}
 use Rattle.plain_engine.proofs.Boundaries.{plane_given}
+use Rattle.plain_engine.proofs.Reduced.{exact_reduced, face_reduced}
 
 -- ---- a mesh with no faces
 pub no_part : (planes : List BookPlane) (corners : List Corner) (faces : List Face) → corners ≡ [] → faces ≡ [] → IsPartMesh planes corners faces
@@ -213,10 +215,10 @@ kept_plane body false h g e is = inr (subst (IsPlaneOf body) (sym (ap opposite e
     twice : (h : Plane) → opposite (opposite h) ≡ h
     twice h = λ i. record { a = back h.a i; b = back h.b i; c = back h.c i; d = back h.d i }
 
-module _ (planes : List BookPlane) (body : Body) (of : ArePlanesOf body planes) (m : PrintedMesh) (whole : IsWholeMesh planes body m.mesh)
+module _ (number : ℕ) (planes : List BookPlane) (body : Body) (of : ArePlanesOf body planes) (m : PrintedMesh) (whole : IsWholeMesh planes body m.mesh)
     (printed : ArePrinted m.mesh.corners.items m.printed.items) (six : m.six ≡ within_128_bits (mesh_volume m.printed.items m.mesh.faces.items)) where
   abbrev e : Element
-  e = element_of m
+  e = element_of number m
 
   abbrev corners : List Corner
   corners = m.mesh.corners.items
@@ -236,13 +238,17 @@ module _ (planes : List BookPlane) (body : Body) (of : ArePlanesOf body planes) 
       kept_plane body is.front_out (support_of planes is.frag) face.plane is.is_face.plane
       (subst (IsPlaneOf body) (sym (ap numbered b.1)) (of.given is.frag.support.k b.0 is.no_wall b.1))
 
+  face_planes : (face : Face) → IsPieceFace planes corners face → All IsPrintedPlane (face.plane ∷ face.edges)
+  face_planes face is = face_reduced planes is.frag is.front_out corners face is.fragment.cycle is.is_face
+
   pub print_of : IsPrintOf body 1000 e
   print_of = record {
     rounded = all_from_each (λ c. c.printed ≡ rounded_image world_frame 1000 c.exact) e.corners (rounded_corners corners m.printed.items printed);
-    points = exact-IsPoint e corners same;
+    points = exact_reduced e corners same;
     volume = six ∙ ap within_128_bits (sym (printed_volume_is e m.printed.items m.mesh.faces.items (printed_corners corners m.printed.items printed) refl));
     full = All-weaker (IsPieceFace planes corners) (IsFull e) full_face faces whole.part.pieces;
     planes = All-weaker (IsPieceFace planes corners) (λ f. IsPlaneOf body f.plane ⊎ IsPlaneOf body (opposite f.plane)) face_plane faces whole.part.pieces;
+    reduced = All-weaker (IsPieceFace planes corners) (λ f. All IsPrintedPlane (f.plane ∷ f.edges)) face_planes faces whole.part.pieces;
     boundary = whole.boundary;
     different = exact_differ e corners same whole.part.distinct;
     used = exact_used e corners same whole.part.used;

@@ -1,5 +1,5 @@
 -- The printed element of a mesh.
-use Rattle.std.specs.Prelude.{ℤ, List, [], ◌∷◌, map}
+use Rattle.std.specs.Prelude.{ℕ, ℤ, List, [], ◌∷◌, map}
 use Rattle.spec_page.specs.declared.Corner.{Corner as PageCorner}
 use Rattle.spec_page.specs.Element.{Element, world_frame}
 use Rattle.plane_core.specs.declared.numbers.Corner.{Corner}
@@ -12,10 +12,10 @@ abbrev pub page_corners : List Corner → List (List ℤ) → List PageCorner
 page_corners (c ∷ cs) (v ∷ vs) = record { exact = point_of c; printed = vector_of v } ∷ page_corners cs vs
 page_corners _ _ = []
 
--- the wall of the file with this mesh
-abbrev pub element_of : PrintedMesh → Element
-element_of m = record {
-  number = 13;
+-- the element of this number with the mesh, in the frame of the world
+abbrev pub element_of : ℕ → PrintedMesh → Element
+element_of number m = record {
+  number = number;
   frame = world_frame;
   corners = page_corners m.mesh.corners.items m.printed.items;
   faces = map face_of m.mesh.faces.items;

@@ -1,4 +1,4 @@
-ghost use Rattle.std.specs.Prelude.{◌≡◌, ◌≤◌, ◌<◌, ◌^◌, length, IfOk, OnOk};
+ghost use Rattle.std.specs.Prelude.{◌≡◌, ◌≤◌, ◌<◌, ◌^◌, length, map, IfOk, OnOk};
 ghost use Rattle.plane_core.specs.Books.{AreDistinct};
 ghost use Rattle.poly_frag.specs.Cycles.{IsFragment};
 ghost use Rattle.box_solids.specs.Trees.{body_of};
@@ -20,19 +20,19 @@ use std::alloc::{AllocError, Global};
 fn add_piece(
     alloc: Global,
     book: &PlaneBook,
-    solid: &BoxSolid,
+    solids: &[BoxSolid],
     piece: &Piece,
     builder: &mut MeshBuilder,
 ) -> Result<(), AllocError>
-    requires planes { ArePlanesOf (body_of (tree_of solid.now)) book.now }
+    requires planes { ArePlanesOf (body_of (map tree_of solids.now)) book.now }
     requires size { length book.now ≤ 2 ^ 32 }
     requires fragment { IsFragment book.now piece.now.frag }
     requires own { 6 ≤ piece.now.frag.support.k }
     requires sides { TellsSides book.now (length book.now) piece.now }
     ensures mesh { OnOk result (IsPartMesh book.now (corners_of builder.old) (faces_of builder.old) → IsPartMesh book.now (corners_of builder.new) (faces_of builder.new)) }
-    ensures boundary { OnOk result (AddsPiece book.now (body_of (tree_of solid.now)) piece.now (faces_of builder.old) (faces_of builder.new)) }
+    ensures boundary { OnOk result (AddsPiece book.now (body_of (map tree_of solids.now)) piece.now (faces_of builder.old) (faces_of builder.new)) }
 {
-    let meanings = find_meanings(alloc, book, solid, piece)?;
+    let meanings = find_meanings(alloc, book, solids, piece)?;
     if meanings.in_front != meanings.behind {
         builder.add_face(alloc, book, &piece.frag, meanings.behind)?;
     }
@@ -43,21 +43,21 @@ fn add_piece(
 fn add_plane(
     alloc: Global,
     book: &PlaneBook,
-    solid: &BoxSolid,
+    solids: &[BoxSolid],
     support: PlaneId,
     builder: &mut MeshBuilder,
 ) -> Result<(), AllocError>
-    requires planes { ArePlanesOf (body_of (tree_of solid.now)) book.now }
+    requires planes { ArePlanesOf (body_of (map tree_of solids.now)) book.now }
     requires distinct { AreDistinct book.now }
     requires size { length book.now ≤ 2 ^ 32 }
     requires given { support.k < length book.now }
     requires no_wall { 6 ≤ support.k }
     ensures mesh { OnOk result (IsPartMesh book.now (corners_of builder.old) (faces_of builder.old) → IsPartMesh book.now (corners_of builder.new) (faces_of builder.new)) }
-    ensures boundary { OnOk result (AddsPlane book.now (body_of (tree_of solid.now)) support.k (faces_of builder.old) (faces_of builder.new)) }
+    ensures boundary { OnOk result (AddsPlane book.now (body_of (map tree_of solids.now)) support.k (faces_of builder.old) (faces_of builder.new)) }
 {
     let pieces = pieces_on(alloc, book, support)?;
     for piece in &pieces {
-        add_piece(alloc, book, solid, piece, builder)?;
+        add_piece(alloc, book, solids, piece, builder)?;
     }
     Ok(())
 }
@@ -66,16 +66,15 @@ fn add_plane(
 pub(crate) fn exact(
     alloc: Global,
     book: &PlaneBook,
-    solid: &BoxSolid,
+    solids: &[BoxSolid],
 ) -> Result<ExactMesh, AllocError>
-    requires planes { ArePlanesOf (body_of (tree_of solid.now)) book.now }
-    requires size { length book.now ≤ 2 ^ 31 }
-    ensures { IfOk result (λ mesh. IsWholeMesh book.now (body_of (tree_of solid.now)) mesh) }
+    requires planes { ArePlanesOf (body_of (map tree_of solids.now)) book.now }
+    ensures { IfOk result (λ mesh. IsWholeMesh book.now (body_of (map tree_of solids.now)) mesh) }
 {
     let mut builder = MeshBuilder::new(alloc);
     for k in 6..book.count() {
         let support = PlaneId { k: k as u32 };
-        add_plane(alloc, book, solid, support, &mut builder)?;
+        add_plane(alloc, book, solids, support, &mut builder)?;
     }
     builder.finish(alloc)
 }

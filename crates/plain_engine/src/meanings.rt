@@ -1,14 +1,14 @@
-ghost use Rattle.std.specs.Prelude.{◌≡◌, ◌≤◌, ◌<◌, ◌^◌, ◌+◌, ◌-◌, false, true, length, set, IfOk};
+ghost use Rattle.std.specs.Prelude.{◌≡◌, ◌≤◌, ◌<◌, ◌^◌, ◌+◌, ◌-◌, false, true, length, map, set, All, IfOk};
 ghost use Rattle.spec_space.specs.declared.Point.{Point};
 ghost use Rattle.spec_space.specs.Points.{IsPoint};
 ghost use Rattle.poly_frag.specs.Frags.{IsInside, support_of};
-ghost use Rattle.box_solids.specs.Trees.{told_by, is_in_front_across};
+ghost use Rattle.box_solids.specs.Trees.{is_in_front_across};
 ghost use Rattle.box_solids.specs.Books.{HasWalls};
 ghost use Rattle.box_solids.specs.Views.{tree_of};
 ghost use Rattle.plane_pieces.specs.Pieces.{TellsSides};
 ghost use Rattle.plain_engine.specs.Meanings.{AreMeanings};
 
-use box_solids::{BoxSolid, told};
+use box_solids::{BoxSolid, meaning_by_sides};
 use plane_core::PlaneBook;
 use plane_pieces::Piece;
 use std::alloc::{AllocError, Global};
@@ -36,18 +36,18 @@ fn sides_behind(alloc: Global, piece: &Piece) -> Result<Vec<bool>, AllocError>
 pub(crate) fn find_meanings(
     alloc: Global,
     book: &PlaneBook,
-    solid: &BoxSolid,
+    solids: &[BoxSolid],
     piece: &Piece,
 ) -> Result<Meanings, AllocError>
-    requires known { HasWalls book.now (tree_of solid.now) }
+    requires known { All (HasWalls book.now) (map tree_of solids.now) }
     requires size { length book.now ≤ 2 ^ 32 }
     requires own { 6 ≤ piece.now.frag.support.k }
     requires given { piece.now.frag.support.k < length book.now }
     requires sides { TellsSides book.now (length book.now) piece.now }
-    ensures { IfOk result (λ m. AreMeanings book.now (tree_of solid.now) piece.now.frag m.in_front m.behind) }
+    ensures { IfOk result (λ m. AreMeanings book.now (map tree_of solids.now) piece.now.frag m.in_front m.behind) }
 {
     let sides = sides_behind(alloc, piece)?;
-    let in_front = told(book, solid, &piece.in_front);
-    let behind = told(book, solid, &sides);
+    let in_front = meaning_by_sides(book, solids, &piece.in_front);
+    let behind = meaning_by_sides(book, solids, &sides);
     Ok(Meanings { in_front, behind })
 }

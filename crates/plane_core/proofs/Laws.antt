@@ -1,27 +1,27 @@
 -- Laws of planes, points and books for the crates above: reduced planes are reduced in the words of the definitions, the
--- common point of three planes is one, and values are linear.
-use Rattle.std.proofs.Common.{◌≡◌, ℕ, zero, suc, ◌<◌, ◌≤◌, Bool, true, false, List, [], ◌∷◌, take, length, slice_get, Some, ℤ, pos, negsuc, neg_ℤ, ◌+ℤ◌, ◌*ℤ◌, ◌<ℤ◌, unsigned_abs, refl, sym, ap, ◌∙◌, arith, ◌⊎◌, inl, inr, true≢false}
+-- common point of three planes is one, and a positive factor keeps a sign.
+use Rattle.std.proofs.Common.{◌≡◌, ℕ, zero, suc, ◌<◌, ◌≤◌, Bool, true, false, List, [], ◌∷◌, take, length, slice_get, Some, ℤ, pos, negsuc, neg_ℤ, ◌*ℤ◌, ◌<ℤ◌, unsigned_abs, refl, sym, ap, ◌∙◌, arith, ◌⊎◌, inl, inr, true≢false}
 use Rattle.std.specs.Prelude.{◌≢◌, option_map}
 use Rattle.std.proofs.lemmas.Int.{ints, unsigned_abs-mul}
 use Rattle.std.proofs.lemmas.Option.{get_or_from_slice_get, slice_get_within, slice_get-map}
 use Prim.Native.Nat.{◌∣◌}
 use native.Mathlib.Nat.{dvd-mul_right}
-use Rattle.integer_laws.proofs.Ring.{Expr, var, ◌⊕◌, ◌⊗◌, ◌⊖◌, ring}
+use Rattle.integer_laws.proofs.Ring.{var, ◌⊗◌, ring}
 use Rattle.integer_laws.proofs.Signs.{mul_positive, mul_negative}
 use Rattle.integer_laws.proofs.Products.{cancel_factor}
 use Rattle.spec_space.specs.declared.Plane.{Plane as AnyPlane}
 use Rattle.spec_space.specs.declared.Point.{Point}
 use Rattle.spec_space.specs.Points.{value, normal, dot, cross}
-use Rattle.spec_solid.specs.Planes.{LeadsPositive, IsReduced}
+use Rattle.spec_space.specs.Reduced.{LeadsPositive, IsReduced}
 use Rattle.plane_core.specs.Numbers.{AreCoprime, leads, leads_positive}
-use Rattle.plane_core.specs.Points.{times, plus, IsSamePoint}
+use Rattle.spec_space.specs.Sums.{times, IsSamePoint}
 use Rattle.plane_core.specs.Views.{plane_of}
 use Rattle.plane_core.specs.Planes.{sign_of}
 use Rattle.plane_core.specs.Books.{AreDistinct, BeginsWithWalls, cube_walls}
 use Rattle.plane_core.specs.declared.numbers.Plane.{Plane}
 use Rattle.plane_core.specs.declared.points.Sign.TheVariants.{Front, Back}
-use Rattle.plane_core.proofs.Cancel.{sign_cases, mul_zero_right}
-use Rattle.plane_core.proofs.Cramer as C
+use Rattle.integer_laws.proofs.Cancel.{sign_cases, mul_zero_right}
+use Rattle.integer_laws.proofs.Cramer as C
 use Rattle.plane_core.proofs.Books.{same_plane, length-map}
 use Rattle.plane_core.proofs.Signed.{coprime-neg}
 use Rattle.plane_core.proofs.Multiples.{shares, turn_both, turn_first}
@@ -63,20 +63,7 @@ reduced_is_reduced p = record {
   divisors = λ m quotient t. p.coprime (unsigned_abs m) (divides_size m quotient.a p.a t.0) (divides_size m quotient.b p.b t.1) (divides_size m quotient.c p.c t.2) (divides_size m quotient.d p.d t.3);
 }
 
--- ---- values
-abbrev valuee : Expr → Expr → Expr → Expr → Expr → Expr → Expr → Expr → Expr
-valuee a b c d x y z w = a ⊗ x ⊕ b ⊗ y ⊕ c ⊗ z ⊖ d ⊗ w
-
-pub value_scaled : (h : AnyPlane) (k : ℤ) (p : Point) → value h (times k p) ≡ k *ℤ value h p
-value_scaled h k p = C.side_value-scaled h.a h.b h.c h.d k p.x p.y p.z p.w
-
-pub value_linear : (h : AnyPlane) (p q : Point) → value h (plus p q) ≡ value h p +ℤ value h q
-value_linear h p q =
-    let numbers : List ℤ = h.a ∷ (h.b ∷ (h.c ∷ (h.d ∷ (p.x ∷ (p.y ∷ (p.z ∷ (p.w ∷ (q.x ∷ (q.y ∷ (q.z ∷ (q.w ∷ []))))))))))) in
-    ring numbers
-    (valuee (var 0) (var 1) (var 2) (var 3) (var 4 ⊕ var 8) (var 5 ⊕ var 9) (var 6 ⊕ var 10) (var 7 ⊕ var 11))
-    (valuee (var 0) (var 1) (var 2) (var 3) (var 4) (var 5) (var 6) (var 7) ⊕ valuee (var 0) (var 1) (var 2) (var 3) (var 8) (var 9) (var 10) (var 11)) refl
-
+-- ---- signs
 pub sign_positive : (x : ℤ) → pos 0 <ℤ x → sign_of x ≡ Front
 sign_positive (pos zero) h = absurd (omega (arith, ints))
 sign_positive (pos (suc n)) h = refl
@@ -96,7 +83,7 @@ sign_factor k v h = elim (sign_cases v) [
 
 -- so the side of a point does not depend on how it is spelt
 pub sign_scaled : (h : AnyPlane) (k : ℤ) (p : Point) → pos 0 <ℤ k → sign_of (value h (times k p)) ≡ sign_of (value h p)
-sign_scaled h k p positive = ap sign_of (value_scaled h k p) ∙ sign_factor k (value h p) positive
+sign_scaled h k p positive = ap sign_of (C.side_value-scaled h.a h.b h.c h.d k p.x p.y p.z p.w) ∙ sign_factor k (value h p) positive
 
 -- ---- the common point
 proportional : (w x u v s t : ℤ) → w ≢ pos 0 → u *ℤ w ≡ x *ℤ v → s *ℤ w ≡ x *ℤ t → u *ℤ t ≡ s *ℤ v

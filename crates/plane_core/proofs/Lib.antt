@@ -1,9 +1,8 @@
 pub mod Sizes
 pub mod Divisors
-pub mod Cramer
 pub mod Books
 pub mod Signed
 pub mod Reduction
-pub mod Cancel
 pub mod Multiples
 pub mod Laws
+pub mod Meets

@@ -3,7 +3,7 @@ use Rattle.std.proofs.Common.{◌≡◌, ℕ, zero, suc, ◌*◌, ◌<◌, ◌�
 use Rattle.std.proofs.lemmas.Int.{ints, unsigned_abs-mul}
 use native.Mathlib.Nat.{dvd_antisymm, eq-zero_of_zero-dvd}
 use Rattle.integer_laws.proofs.Ring.{*ℤ_assoc}
-use Rattle.plane_core.proofs.Cancel.{zero_right}
+use Rattle.integer_laws.proofs.Cancel.{zero_right}
 use Rattle.plane_core.specs.Numbers.{IsGcdOfFour}
 use Rattle.plane_core.specs.declared.numbers.Plane.{Plane}
 use Rattle.plane_core.specs.Planes.{IsReductionOf}

@@ -1,7 +1,7 @@
 -- The sign of a reduced plane.
 use Rattle.std.proofs.Common.{◌≡◌, ℕ, zero, suc, ◌≤◌, Bool, true, false, ℤ, pos, negsuc, neg_ℤ, ◌*ℤ◌, unsigned_abs, refl, sym, ap, ◌∙◌, subst, arith, ◌∷◌, [], T, ltb, ◌^◌, to_z, of_z, ◌-ℤ◌}
 use mir.Syntax.{w128}
-use Rattle.plane_core.proofs.Sizes.{Is, again}
+use Rattle.integer_laws.proofs.Computed.{Is, again}
 use Rattle.std.proofs.lemmas.Int.{ints}
 use Rattle.integer_laws.proofs.Ring.{var, con, neg, ◌⊗◌, ring}
 use Rattle.plane_core.specs.Numbers.{leads_positive, leads, AreCoprime}

@@ -1,13 +1,6 @@
--- Whole numbers of the geometry: determinants, and when a list of numbers is reduced.
-use Rattle.std.specs.Prelude.{◌*◌, ◌≡◌, ◌≤◌, ◌^◌, ℕ, zero, suc, Bool, true, false, ℤ, pos, negsuc, ◌+ℤ◌, ◌-ℤ◌, ◌*ℤ◌, unsigned_abs}
+-- Whole numbers of the geometry: when a list of numbers is reduced, and their sizes.
+use Rattle.std.specs.Prelude.{◌*◌, ◌≡◌, ◌≤◌, ◌^◌, ℕ, zero, suc, Bool, true, false, ℤ, pos, negsuc, unsigned_abs}
 use Prim.Native.Nat.{◌∣◌}
-
-abbrev pub det2 : ℤ → ℤ → ℤ → ℤ → ℤ
-det2 a b c d = a *ℤ d -ℤ b *ℤ c
-
--- the determinant of three rows
-abbrev pub det3 : ℤ → ℤ → ℤ → ℤ → ℤ → ℤ → ℤ → ℤ → ℤ → ℤ
-det3 a b c d e f g h i = a *ℤ det2 e f h i +ℤ d *ℤ det2 h i b c +ℤ g *ℤ det2 b c e f
 
 -- no number but 1 divides all four
 abbrev pub AreCoprime : ℤ → ℤ → ℤ → ℤ → Type 0

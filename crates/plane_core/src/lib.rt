@@ -3,8 +3,10 @@
 #![tactic(auto)]
 
 mod book;
+mod determinants;
 mod numbers;
 mod points;
+mod raw_corners;
 mod reduce;
 mod reduced;
 #[cfg(test)]
@@ -12,5 +14,5 @@ mod tests;
 mod walls;
 
 pub use book::{PlaneBook, PlaneId};
-pub use numbers::{Corner, Plane};
+pub use numbers::{Corner, Plane, RawCorner};
 pub use points::{Sign, meet, side};

@@ -33,3 +33,19 @@ pub struct Corner {
     pub ghost positive: { pos 0 <ℤ w },
     pub ghost coprime: { AreCoprime x y z w },
 }
+
+/// The point `(x / w, y / w, z / w)` in grid steps, where three planes meet, as Cramer's rule gives it. It is not reduced, so
+/// one point has many spellings: sides are asked of it, and it has no equality. The weight w is positive and at most
+/// 6 * 2^78, and the sizes of the others are at most 6 * 2^96.
+#[derive(Clone, Copy, Debug)]
+pub struct RawCorner {
+    pub x: i128,
+    pub y: i128,
+    pub z: i128,
+    pub w: i128,
+    pub ghost x_small: { unsigned_abs x ≤ 6 * 2 ^ 96 },
+    pub ghost y_small: { unsigned_abs y ≤ 6 * 2 ^ 96 },
+    pub ghost z_small: { unsigned_abs z ≤ 6 * 2 ^ 96 },
+    pub ghost w_small: { unsigned_abs w ≤ 6 * 2 ^ 78 },
+    pub ghost positive: { pos 0 <ℤ w },
+}

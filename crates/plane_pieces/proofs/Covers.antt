@@ -15,7 +15,7 @@ use Rattle.plane_pieces.specs.Pieces.{IsPiece, IsOff, CoverPlane}
 use Rattle.plane_pieces.specs.declared.sides.Piece.{Piece}
 use Rattle.plane_pieces.proofs.Held.{no_flag, inside_from_held, held_from_inside}
 use Rattle.plane_pieces.proofs.Counts.{one, around, around_pushed}
-use Rattle.plane_pieces.proofs.InnerAreas.{inner_area}
+use Rattle.poly_frag.proofs.InnerAreas.{inner_area}
 
 -- ---- the first piece
 none_first : {X : Type 0} (x : X) (i : ℕ) → slice_get {X = X} [] i ≡ Some x → ⊥

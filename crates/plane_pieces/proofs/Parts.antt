@@ -5,7 +5,7 @@ use Rattle.spec_space.specs.declared.Point.{Point}
 use Rattle.spec_space.specs.declared.Plane.{Plane}
 use Rattle.spec_space.specs.Points.{IsPoint, value, opposite}
 use Rattle.plane_core.specs.declared.numbers.Plane.{Plane as BookPlane}
-use Rattle.plane_core.proofs.Cancel.{sign_cases}
+use Rattle.integer_laws.proofs.Cancel.{sign_cases}
 use Rattle.convex_cycles.proofs.Hull.{value-opposite}
 use Rattle.poly_frag.specs.Frags.{IsPartOf, HasPart}
 use Rattle.poly_frag.specs.declared.frag.Frag.{Frag}

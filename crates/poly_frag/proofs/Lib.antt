@@ -1,6 +1,7 @@
 pub mod Across
 pub mod Ahead
 pub mod CornerSigns
+pub mod InnerAreas
 pub mod InsideCube
 pub mod Kept
 pub mod KeptBooks
@@ -12,5 +13,6 @@ pub mod Squares
 pub mod Starts
 pub mod Turned
 pub mod Turning
+pub mod Reduced
 pub mod WholeCube
 pub mod Wholes

@@ -14,5 +14,5 @@ mod whole;
 
 pub use cut::split;
 pub use frag::{Edge, Frag, Split};
-pub use meets::corners;
+pub use meets::{corners, raw_corners};
 pub use whole::on_cube;

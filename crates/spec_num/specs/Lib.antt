@@ -1,3 +1,4 @@
 pub mod Rounding
+pub mod Roots
 pub mod Decimals
 pub mod Words

@@ -1,2 +1,2 @@
-//! Rules of numbers: decimal texts, their values, and rounding. This crate has definitions alone.
+//! Rules of numbers: decimal texts, their values, rounding, and whole roots. This crate has definitions alone.
 #![tactic(auto)]

@@ -1,10 +1,11 @@
 -- The planes of an element, and the two sides of a point on one of them.
-use Rattle.std.specs.Prelude.{◌≡◌, ◌≢◌, ℤ, pos, neg_ℤ, ◌^◌, ◌+ℤ◌, ◌-ℤ◌, ◌*ℤ◌, ◌<ℤ◌, ◌==◌, List, [], ◌∷◌, ◌++◌, Contains, unsigned_abs, ◌⊎◌, if◌then◌else◌}
+use Rattle.std.specs.Prelude.{◌≡◌, ◌≢◌, ℤ, pos, neg_ℤ, ◌^◌, ◌+ℤ◌, ◌-ℤ◌, ◌*ℤ◌, ◌==◌, List, [], ◌∷◌, ◌++◌, Contains, unsigned_abs, if◌then◌else◌}
 use Rattle.std.specs.List.{flat_map}
 use Rattle.spec_space.specs.declared.Point.{Point}
 use Rattle.spec_space.specs.declared.Plane.{Plane}
 use Rattle.spec_space.specs.declared.Vector.{Vector}
 use Rattle.spec_space.specs.Points.{minus, dot, value, opposite}
+use Rattle.spec_space.specs.Reduced.{IsTimes, IsReduced}
 use Rattle.spec_solid.specs.Triangles.{Triangle, turn}
 use Rattle.spec_solid.specs.Solids.{Solid, Shell, HalfSpace, Combined, Body, is_meant}
 
@@ -34,19 +35,6 @@ solid_planes (Combined operator first second) = solid_planes first ++ solid_plan
 
 abbrev pub body_planes : Body → List Plane
 body_planes body = flat_map solid_planes body.items ++ flat_map solid_planes body.openings
-
--- the first of a, b, c that is not 0 is positive
-abbrev pub LeadsPositive : Plane → Type 0
-LeadsPositive h = (pos 0 <ℤ h.a) ⊎ ((h.a ≡ pos 0) × ((pos 0 <ℤ h.b) ⊎ ((h.b ≡ pos 0) × (pos 0 <ℤ h.c))))
-
--- the number divides all four numbers of a plane, and these are the quotients
-abbrev pub IsTimes : ℤ → Plane → Plane → Type 0
-IsTimes m quotient h = (h.a ≡ m *ℤ quotient.a) × (h.b ≡ m *ℤ quotient.b) × (h.c ≡ m *ℤ quotient.c) × (h.d ≡ m *ℤ quotient.d)
-
--- no number but 1 and -1 divides all four, and the first coefficient that is not 0 is positive
-pub record IsReduced (h : Plane) : Type 0 where
-  pub lead : LeadsPositive h
-  pub divisors : (m : ℤ) (quotient : Plane) → IsTimes m quotient h → unsigned_abs m ≡ 1
 
 -- the reduced form of one of the element's planes
 abbrev pub IsPlaneOf : Body → Plane → Type 0

@@ -1,4 +1,4 @@
-use Rattle.std.proofs.Common.{◌≡◌, ◌≢◌, Bool, true, false, not, refl}
+use Rattle.std.proofs.Common.{map, ◌≡◌, ◌≢◌, Bool, true, false, not, refl}
 use mathlib.Core.Bool.{beq}
 use Rattle.box_solids.specs.Views.{tree_of}
 use Rattle.box_solids.proofs.BookLaws.{planes_have_walls}
@@ -20,7 +20,7 @@ same_from_test false false e = refl
 
 pub find_meanings-requires : goal.find_meanings-requires
 find_meanings-requires c = record {
-  known = planes_have_walls (tree_of c.args.solid.now) c.args.book.now c.requires.planes;
+  known = planes_have_walls (map tree_of c.args.solids.now) c.args.book.now c.requires.planes;
   size = c.requires.size;
   own = c.requires.own;
   given = c.requires.fragment.cycle.support_given;
@@ -38,12 +38,12 @@ pub returns-in_ok-add_face-clause-boundary : goal.returns-in_ok-add_face-clause-
 returns-in_ok-add_face-clause-boundary c =
     let m = c.in_ok-meanings.meanings in
     let added = c.in_ok-add_face.ensures in
-    piece_added c.args.book.now (tree_of c.args.solid.now) c.requires.planes c.args.piece.now c.requires.fragment c.requires.own m.in_front m.behind c.in_ok-meanings.ensures
+    piece_added c.args.book.now (map tree_of c.args.solids.now) c.requires.planes c.args.piece.now c.requires.fragment c.requires.own m.in_front m.behind c.in_ok-meanings.ensures
     (differ_from_test m.in_front m.behind c.if-meanings.true)
     (corners_of c.add_face.new.self) (faces_of c.args.builder.now) (faces_of c.add_face.new.self) added.face.0 added.face.1 added.face.2
 
 pub returns-else-meanings-clause-boundary : goal.returns-else-meanings-clause-boundary
 returns-else-meanings-clause-boundary c =
     let m = c.in_ok-meanings.meanings in
-    none_added c.args.book.now (tree_of c.args.solid.now) c.requires.planes c.args.piece.now c.requires.fragment c.requires.own m.in_front m.behind c.in_ok-meanings.ensures
+    none_added c.args.book.now (map tree_of c.args.solids.now) c.requires.planes c.args.piece.now c.requires.fragment c.requires.own m.in_front m.behind c.in_ok-meanings.ensures
     (same_from_test m.in_front m.behind c.if-meanings.false) (faces_of c.args.builder.now)

@@ -1,4 +1,4 @@
-use Rattle.std.proofs.Common.{◌≡◌, ◌≤◌, All, length, sym, subst}
+use Rattle.std.proofs.Common.{map, ◌≡◌, ◌≤◌, All, length, sym, subst}
 use Rattle.std.proofs.lemmas.List.Elements.{All-get_or, All-weaker}
 use Rattle.box_solids.specs.Views.{tree_of}
 use Rattle.poly_frag.specs.Cycles.{IsFragment}
@@ -11,7 +11,7 @@ use Rattle.plain_engine.proofs.faces.add_plane.Goals as goal
 pub loop-piece-init : goal.loop-piece-init
 loop-piece-init c = record {
   mesh = λ part. part;
-  found = none_found c.args.book.now (tree_of c.args.solid.now) (faces_of c.args.builder.now);
+  found = none_found c.args.book.now (map tree_of c.args.solids.now) (faces_of c.args.builder.now);
 }
 
 pub add_piece-requires : goal.add_piece-requires
@@ -36,7 +36,7 @@ add_piece-requires c =
 pub loop-piece-preserved : goal.loop-piece-preserved
 loop-piece-preserved c = record {
   mesh = λ part. c.in_ok-add_piece.ensures.mesh (c.loop-piece.invariant.mesh part);
-  found = next_found c.args.book.now (tree_of c.args.solid.now) c.deref-piece-items.result.now c.loop-piece.piece-index c.piece-item.result
+  found = next_found c.args.book.now (map tree_of c.args.solids.now) c.deref-piece-items.result.now c.loop-piece.piece-index c.piece-item.result
       (faces_of c.args.builder.now) (faces_of c.loop-piece.builder) (faces_of c.add_piece.new.builder) c.loop-piece-test.true c.piece-item.is c.loop-piece.invariant.found c.in_ok-add_piece.ensures.boundary;
 }
 
@@ -49,9 +49,9 @@ returns-clause-boundary c =
     let list = c.deref-piece-items.result.now in
     let same = c.deref-piece-items.ensures.value in
     let fragments = subst (All (λ (q : Piece). IsFragment planes q.frag × (q.frag.support ≡ c.args.support))) (sym same) c.in_ok-pieces.ensures.fragments in
-    plane_added planes (tree_of c.args.solid.now) c.requires.planes c.requires.distinct c.args.support c.requires.no_wall list
+    plane_added planes (map tree_of c.args.solids.now) c.requires.planes c.requires.distinct c.args.support c.requires.no_wall list
     (All-weaker (λ (q : Piece). IsFragment planes q.frag × (q.frag.support ≡ c.args.support)) (λ (q : Piece). q.frag.support ≡ c.args.support) (λ q one. one.1) list fragments)
     (subst (CoverPlane planes c.args.support (length planes)) (sym same) c.in_ok-pieces.ensures.cover)
     (faces_of c.args.builder.now) (faces_of c.loop-piece.builder)
-    (all_found planes (tree_of c.args.solid.now) list c.loop-piece.piece-index (faces_of c.args.builder.now) (faces_of c.loop-piece.builder) c.loop-piece-test.false c.loop-piece.invariant.found)
+    (all_found planes (map tree_of c.args.solids.now) list c.loop-piece.piece-index (faces_of c.args.builder.now) (faces_of c.loop-piece.builder) c.loop-piece-test.false c.loop-piece.invariant.found)
     c.requires.given

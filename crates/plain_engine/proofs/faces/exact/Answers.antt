@@ -17,12 +17,12 @@ if_both P Q R f (Err e) p q = tt
 pub loop-k-init : goal.loop-k-init
 loop-k-init c = record {
   part = no_part c.args.book.now (corners_of c.new-builder.result) (faces_of c.new-builder.result) c.new-builder.ensures.corners c.new-builder.ensures.faces;
-  below = none_below c.args.book.now (tree_of c.args.solid.now) 6 (faces_of c.new-builder.result) refl c.new-builder.ensures.faces;
+  below = none_below c.args.book.now (map tree_of c.args.solids.now) 6 (faces_of c.new-builder.result) refl c.new-builder.ensures.faces;
 }
 
 pub add_plane-requires : goal.add_plane-requires
 add_plane-requires c =
-    let few = c.requires.size in
+    let few = c.count-k-end.ensures.few in
     let test = c.loop-k-test.true in
     let count = c.count-k-end.ensures.value in
     record {
@@ -36,13 +36,13 @@ add_plane-requires c =
 pub loop-k-preserved : goal.loop-k-preserved
 loop-k-preserved c = record {
   part = c.in_ok-add_plane.ensures.mesh c.loop-k.invariant.part;
-  below = next_below c.args.book.now (tree_of c.args.solid.now) c.loop-k.k (faces_of c.loop-k.builder) (faces_of c.add_plane.new.builder) c.loop-k.invariant.below c.in_ok-add_plane.ensures.boundary;
+  below = next_below c.args.book.now (map tree_of c.args.solids.now) c.loop-k.k (faces_of c.loop-k.builder) (faces_of c.add_plane.new.builder) c.loop-k.invariant.below c.in_ok-add_plane.ensures.boundary;
 }
 
 pub returns : goal.returns
 returns c =
     let planes = c.args.book.now in
-    let s = tree_of c.args.solid.now in
+    let s = map tree_of c.args.solids.now in
     let b = c.loop-k.builder in
     let past : length planes ≤ c.loop-k.k = let test = c.loop-k-test.false in let count = c.count-k-end.ensures.value in omega arith in
     if_both (λ (mesh : ExactMesh). mesh.corners.items ≡ corners_of b) (λ (mesh : ExactMesh). map face_of mesh.faces.items ≡ faces_of b) (λ mesh. IsWholeMesh planes (body_of s) mesh)

@@ -11,9 +11,9 @@ returns c p is inside =
     let q = c.args.piece.now in
     let own = support_of planes q.frag in
     record {
-      front = c.told-in_front.ensures.sides (is_in_front_across own true p)
+      front = c.meaning_by_sides-in_front.ensures.sides (is_in_front_across own true p)
           (subst (AreFlagsOf planes (is_in_front_across own true p)) (sym c.deref.ensures.value) (front_flags planes q c.requires.sides p is inside));
-      back = c.told-behind.ensures.sides (is_in_front_across own false p)
+      back = c.meaning_by_sides-behind.ensures.sides (is_in_front_across own false p)
           (subst (AreFlagsOf planes (is_in_front_across own false p)) (sym c.deref-2.ensures.value)
           (back_flags planes q c.requires.sides p is inside c.requires.own c.in_ok-sides.sides.items c.in_ok-sides.ensures));
     }

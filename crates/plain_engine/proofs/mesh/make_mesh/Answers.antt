@@ -28,9 +28,9 @@ sixfold-six-requires c =
     }
 
 pub returns-clause-print : goal.returns-clause-print
-returns-clause-print c =
+returns-clause-print c number =
     let m : PrintedMesh = record { mesh = c.in_ok-mesh.mesh; printed = c.in_ok-printed.printed; six = c.sixfold-six.result } in
-    print_of c.in_ok-book.book (body_of (tree_of c.args.solid.now)) c.in_ok-book.ensures.planes m c.in_ok-mesh.ensures
+    print_of number c.in_ok-book.book (body_of (map tree_of c.args.solids.now)) c.in_ok-book.ensures.planes m c.in_ok-mesh.ensures
     (c.in_ok-printed.ensures ∙ ap (map image) c.deref.ensures.value)
     (c.sixfold-six.ensures ∙ ap₂ (λ vs fs. within_128_bits (mesh_volume vs fs)) c.deref-2.ensures.value c.deref-3.ensures.value)
 

@@ -1,6 +1,7 @@
 use Rattle.std.proofs.Common.{◌≡◌, ◌≢◌, false, pos, negsuc, ◌*ℤ◌, sym, ap, ◌∙◌, arith}
 use Rattle.std.proofs.lemmas.Int.{to_z-of_z, ints}
-use Rattle.plane_core.proofs.Sizes.{arg, small}
+use Rattle.integer_laws.proofs.Computed.{arg}
+use Rattle.plane_core.proofs.Sizes.{small}
 use Rattle.plane_core.proofs.Signed.{opposite, opposite_leads, coprime-neg, times_one, times_minus_one}
 use Rattle.plane_core.specs.Numbers.{leads_positive}
 use Rattle.plane_core.proofs.reduced.oriented.Goals as goal

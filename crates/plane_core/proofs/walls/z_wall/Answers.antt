@@ -1,6 +1,7 @@
 use Rattle.std.proofs.Common.{arith, refl}
 use native.Mathlib.Nat.{dvd_antisymm, one-dvd}
-use Rattle.plane_core.proofs.Sizes.{arg, small}
+use Rattle.integer_laws.proofs.Computed.{arg}
+use Rattle.plane_core.proofs.Sizes.{small}
 use Rattle.plane_core.proofs.walls.z_wall.Goals as goal
 
 pub invariant_of-result : goal.invariant_of-result

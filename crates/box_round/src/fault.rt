@@ -1,0 +1,36 @@
+ghost use Rattle.std.specs.Prelude.{◌≡◌};
+
+use spec_refusal::Refusal;
+use std::alloc::AllocError;
+use thiserror::Error;
+
+/// Why an element has no solids on the grid.
+#[derive(Clone, Copy, Debug, Drop, PartialEq, Eq, Error)]
+pub enum RoundFault {
+    /// The element is refused.
+    #[error("{0}")]
+    Refused(Refusal),
+    /// Memory was wanting.
+    #[error("want of memory")]
+    NoMemory,
+}
+
+impl From<Refusal> for RoundFault {
+    ghost use Rattle.box_round.specs.declared.fault.RoundFault.TheVariants.{Refused};
+
+    ghost from_gives = { λ refusal e. e ≡ Refused refusal };
+
+    fn from(refusal: Refusal) -> RoundFault {
+        RoundFault::Refused(refusal)
+    }
+}
+
+impl From<AllocError> for RoundFault {
+    ghost use Rattle.box_round.specs.declared.fault.RoundFault.TheVariants.{NoMemory};
+
+    ghost from_gives = { λ _ e. e ≡ NoMemory };
+
+    fn from(_: AllocError) -> RoundFault {
+        RoundFault::NoMemory
+    }
+}

@@ -1,7 +1,0 @@
-use Rattle.plane_core.proofs.Sizes.{arg, again, after, det_is, small}
-use Rattle.plane_core.proofs.points.x_part.Goals as goal
-
-pub returns : goal.returns
-returns c =
-    let found = again (after c.det.ensures.value (det_is (arg c.args.p.now.d c.args.p.now.d_small tt) (arg c.args.p.now.b c.args.p.now.b_small tt) (arg c.args.p.now.c c.args.p.now.c_small tt) (arg c.args.q.now.d c.args.q.now.d_small tt) (arg c.args.q.now.b c.args.q.now.b_small tt) (arg c.args.q.now.c c.args.q.now.c_small tt) (arg c.args.r.now.d c.args.r.now.d_small tt) (arg c.args.r.now.b c.args.r.now.b_small tt) (arg c.args.r.now.c c.args.r.now.c_small tt))) tt in
-    record { value = found.is; size = small found }
