@@ -6,7 +6,8 @@ use Rattle.ifc_kinds.specs.declared.kind.Kind.TheVariants as kind
 use Rattle.spec_refusal.specs.declared.Refusal.{Refusal}
 use Rattle.spec_refusal.specs.declared.Refusal.TheVariants.{Unsupported}
 use Rattle.spec_expression.specs.Expressions.{Expression, Faces, prism_faces}
-use Rattle.spec_entity.specs.Reads.{Read, next, only_if, if_unset, named_instance}
+use Rattle.spec_refusal.specs.Reads.{Read, next, only_if}
+use Rattle.spec_entity.specs.Reads.{if_unset, named_instance}
 use Rattle.spec_entity.specs.Units.{positive}
 use Rattle.spec_entity.specs.Solids.{SolidRead, profile, sweeps_upwards, extruded_area_solid}
 

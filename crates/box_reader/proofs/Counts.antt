@@ -12,7 +12,8 @@ use Rattle.ifc_kinds.specs.declared.kind.Kind.TheVariants as kind
 use Rattle.spec_refusal.specs.declared.Refusal.{Refusal}
 use Rattle.spec_refusal.specs.declared.Refusal.TheVariants.{Unsupported, ElementTooLarge}
 use Rattle.spec_expression.specs.Expressions.{Expression, Faces, Pair, Root, triangles, block_faces, prism_faces}
-use Rattle.spec_entity.specs.Reads.{Read, next, only_if, wanted_value, has_kind, is_one_of, named_instance, member_instance}
+use Rattle.spec_refusal.specs.Reads.{Read, next, only_if}
+use Rattle.spec_entity.specs.Reads.{wanted_value, has_kind, is_one_of, named_instance, member_instance}
 use Rattle.spec_entity.specs.Units.{positive}
 use Rattle.spec_entity.specs.Points.{axes}
 use Rattle.spec_entity.specs.Solids.{SolidRead, count_with, sizes, block, profile, sweeps_upwards, extruded_area_solid, operator, operand, boolean_result, csg_solid, solid_by, solid, items}

@@ -5,7 +5,7 @@ use Rattle.std.specs.Option.{option_map}
 use Rattle.spec_step.specs.declared.tree.Param.{Param}
 use Rattle.spec_entity.specs.Elements.{Representation}
 use Rattle.spec_refusal.specs.declared.Refusal.{Refusal}
-use Rattle.spec_entity.specs.Reads.{Read}
+use Rattle.spec_refusal.specs.Reads.{Read}
 use Rattle.spec_expression.specs.Expressions.{Expression}
 use Rattle.box_expressions.specs.declared.solids.BoxExpression.{BoxExpression}
 use Rattle.box_expressions.specs.Views.{expression_of}

@@ -95,7 +95,11 @@ fn sweeps_upwards(table: &Table<'_>, at: u64) -> Result<(), Refusal>
 }
 
 /// The extrusion of a rectangle along the z axis (IfcExtrudedAreaSolid).
-pub fn extruded_area_solid(table: &Table<'_>, at: u64, count: u128) -> Result<(BoxExpression, u128), Refusal>
+pub fn extruded_area_solid(
+    table: &Table<'_>,
+    at: u64,
+    count: u128,
+) -> Result<(BoxExpression, u128), Refusal>
     requires simple { IsSimple table.now at }
     requires count { count ≤ 4096 }
     ensures value { plain_solid result ≡ extruded_area_solid table.now at count }

@@ -5,7 +5,8 @@ ghost use Rattle.spec_entity.specs.Elements.{if_body, body_in, body_representati
 ghost use Rattle.box_reader.specs.Views.{plain_representation};
 
 use entity_reader::{
-    axes, if_unset, instance_of_kinds, is_zero, member_instance, members, named_instance, refusal_of,
+    axes, if_unset, instance_of_kinds, is_zero, member_instance, members, named_instance,
+    refusal_of,
 };
 use ifc_kinds::Kind;
 use spec_refusal::Refusal;

@@ -94,8 +94,10 @@ fn boolean_result(
     ensures few { IfOk result (λ read. read.1 ≤ 4096) }
 {
     let operator = operator(table, at)?;
-    let (first, reached) = solid(alloc, table, wanted_instance(table, at, 2)?, deeper, count)?;
-    let (second, reached) = solid(alloc, table, wanted_instance(table, at, 3)?, deeper, reached)?;
+    let first_at = wanted_instance(table, at, 2)?;
+    let (first, reached) = solid(alloc, table, first_at, deeper, count)?;
+    let second_at = wanted_instance(table, at, 3)?;
+    let (second, reached) = solid(alloc, table, second_at, deeper, reached)?;
     let first = Boxed::new(alloc, first)?;
     let second = Boxed::new(alloc, second)?;
     Ok((

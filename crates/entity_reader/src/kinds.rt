@@ -98,7 +98,12 @@ pub fn wanted_instance(table: &Table<'_>, at: u64, position: usize) -> Result<u6
 }
 
 /// The instance that a wanted attribute names, of one of these kinds.
-pub fn named_instance(table: &Table<'_>, kinds: &[Kind], at: u64, position: usize) -> Result<u64, Refusal>
+pub fn named_instance(
+    table: &Table<'_>,
+    kinds: &[Kind],
+    at: u64,
+    position: usize,
+) -> Result<u64, Refusal>
     requires simple { IsSimple table.now at }
     requires counted { 1 ≤ position }
     ensures value { result ≡ named_instance table.now kinds.now at position }
@@ -108,7 +113,12 @@ pub fn named_instance(table: &Table<'_>, kinds: &[Kind], at: u64, position: usiz
 }
 
 /// The instance that a member of a list names.
-pub fn member_instance(table: &Table<'_>, at: u64, position: usize, p: &Param) -> Result<u64, Refusal>
+pub fn member_instance(
+    table: &Table<'_>,
+    at: u64,
+    position: usize,
+    p: &Param,
+) -> Result<u64, Refusal>
     ensures { result ≡ member_instance table.now at position p.now }
 {
     match table.param_ref(at, position, p) {

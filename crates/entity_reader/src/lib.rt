@@ -12,7 +12,8 @@ mod units;
 
 pub use element_list::elements;
 pub use kinds::{
-    has_kind, instance_of_kinds, is_one_of, member_instance, named_instance, refusal_of, wanted_instance,
+    has_kind, instance_of_kinds, is_one_of, member_instance, named_instance, refusal_of,
+    wanted_instance,
 };
 pub use numbers::{if_unset, members, positive};
 pub use points::{axes, direction, is_zero};

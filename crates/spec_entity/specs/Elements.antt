@@ -8,7 +8,8 @@ use Rattle.spec_table.specs.Attributes.{Reading, attr_ref, attr_text}
 use Rattle.ifc_kinds.specs.Keywords.{element_kinds}
 use Rattle.ifc_kinds.specs.declared.kind.Kind.TheVariants as kind
 use Rattle.spec_refusal.specs.declared.Refusal.TheVariants.{Unsupported}
-use Rattle.spec_entity.specs.Reads.{Read, next, only_if, as_read, if_unset, instance_of_kinds, is_one_of, has_kind, numbers_of, named_instance, member_instance, members}
+use Rattle.spec_refusal.specs.Reads.{Read, next, only_if}
+use Rattle.spec_entity.specs.Reads.{as_read, if_unset, instance_of_kinds, is_one_of, has_kind, numbers_of, named_instance, member_instance, members}
 use Rattle.spec_entity.specs.Points.{axes, is_zero}
 use Rattle.spec_entity.specs.Solids.{items}
 use Rattle.spec_expression.specs.Expressions.{Expression}

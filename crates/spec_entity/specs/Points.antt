@@ -6,7 +6,8 @@ use Rattle.spec_step.specs.declared.tree.Param.{Param}
 use Rattle.spec_table.specs.Sections.{DataSection}
 use Rattle.ifc_kinds.specs.declared.kind.Kind.TheVariants as kind
 use Rattle.spec_refusal.specs.declared.Refusal.TheVariants.{BadAttribute, NumberTooLarge, BadDirection}
-use Rattle.spec_entity.specs.Reads.{Read, next, only_if, if_unset, named_instance, members, each, number}
+use Rattle.spec_refusal.specs.Reads.{Read, next, only_if}
+use Rattle.spec_entity.specs.Reads.{if_unset, named_instance, members, each, number}
 use Rattle.spec_entity.specs.Units as units
 
 -- three numbers; the third is 0 where two are given

@@ -12,21 +12,9 @@ use Rattle.spec_table.specs.declared.fault.AttrFault.{AttrFault}
 use Rattle.spec_table.specs.declared.fault.AttrFault.TheVariants as fault
 use Rattle.ifc_kinds.specs.Keywords.{is_keyword}
 use Rattle.ifc_kinds.specs.declared.kind.Kind.{Kind}
+use Rattle.spec_refusal.specs.Reads.{Read, next, only_if}
 use Rattle.spec_refusal.specs.declared.Refusal.{Refusal}
 use Rattle.spec_refusal.specs.declared.Refusal.TheVariants.{Unsupported, BadAttribute, Dangling, NumberTooLarge}
-
-abbrev pub Read : Type 0 → Type 0
-Read T = Result T Refusal
-
--- first this, and then what follows from it
-abbrev pub next : {T U : Type 0} → Read T → (T → Read U) → Read U
-next (Ok x) go_on = go_on x
-next (Err refusal) go_on = Err refusal
-
--- this, if the test is passed
-abbrev pub only_if : {T : Type 0} → Bool → Refusal → Read T → Read T
-only_if true refusal go_on = go_on
-only_if false refusal go_on = Err refusal
 
 abbrev pub refusal_of : AttrFault → Refusal
 refusal_of (fault.BadAttribute at position) = BadAttribute at position

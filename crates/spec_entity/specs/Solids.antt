@@ -10,7 +10,8 @@ use Rattle.spec_table.specs.Sections.{DataSection}
 use Rattle.spec_table.specs.Attributes.{attr_enum, attr_ref}
 use Rattle.ifc_kinds.specs.declared.kind.Kind.TheVariants as kind
 use Rattle.spec_refusal.specs.declared.Refusal.TheVariants.{Unsupported, BadAttribute, TooDeep, ElementTooLarge}
-use Rattle.spec_entity.specs.Reads.{Read, next, only_if, wanted_value, if_unset, is_one_of, has_kind, named_instance, member_instance}
+use Rattle.spec_refusal.specs.Reads.{Read, next, only_if}
+use Rattle.spec_entity.specs.Reads.{wanted_value, if_unset, is_one_of, has_kind, named_instance, member_instance}
 use Rattle.spec_entity.specs.Units.{positive}
 use Rattle.spec_entity.specs.Points.{direction, axes}
 use Rattle.spec_expression.specs.Expressions.{Expression, Faces, Pair, Root, block_faces, prism_faces}

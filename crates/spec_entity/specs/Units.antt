@@ -10,7 +10,8 @@ use Rattle.ifc_kinds.specs.declared.kind.Kind.TheVariants as kind
 use Rattle.spec_refusal.specs.declared.Refusal.TheVariants.{NumberTooLarge, BadAttribute}
 use Rattle.spec_refusal.specs.declared.UnitFault.{UnitFault}
 use Rattle.spec_refusal.specs.declared.UnitFault.TheVariants.{NoProject, NoLengthUnit}
-use Rattle.spec_entity.specs.Reads.{Read, next, only_if, has_kind, is_one_of, named_instance, members, number, wanted_number, numbers_of}
+use Rattle.spec_refusal.specs.Reads.{Read, next, only_if}
+use Rattle.spec_entity.specs.Reads.{has_kind, is_one_of, named_instance, members, number, wanted_number, numbers_of}
 
 -- the number of the first project of the file
 abbrev pub first_project : DataSection → Option ℕ
