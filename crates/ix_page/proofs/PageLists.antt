@@ -1,15 +1,20 @@
 -- Lists of items that grow by one.
-use Rattle.std.proofs.Common.{◌≡◌, ℕ, ◌+◌, ◌<◌, ◌≤◌, ◌*◌, List, [], ◌∷◌, ◌++◌, length, get_or, take, Bool, refl, sym, ap, ◌∙◌, append_assoc, append-nil, arith, ℤ, min, zero-add, add_assoc, add-zero, subst}
-use Rattle.std.specs.Prelude.{sum_by, count_by}
+use Rattle.std.proofs.Common.{◌≡◌, ℕ, ◌+◌, ◌<◌, ◌≤◌, ◌*◌, List, [], ◌∷◌, ◌++◌, length, get_or, take, Bool, refl, sym, ap, ◌∙◌, append_assoc, append-nil, arith, ℤ, min, Ok, length-append, zero-add, add_assoc, add-zero, subst}
+use Rattle.std.specs.Prelude.{sum_by, count_by, if◌then◌else◌}
 use Rattle.std.specs.List.{flat_map}
 use Rattle.plane_core.specs.declared.numbers.Corner.{Corner}
 use Rattle.plain_engine.specs.Prints.{page_corners}
 use Rattle.spec_table.specs.Sections.{DataSection}
-use Rattle.spec_page.specs.Items.{Item, corner_count}
-use Rattle.spec_page.specs.Page.{item_lines, items_lines}
-use Rattle.spec_outcome.specs.Outcomes.{IsItemOf, AreItemsOf}
+use Rattle.spec_solid.specs.Solids.{Body}
+use Rattle.spec_refusal.specs.Reads.{Read}
+use Rattle.spec_page.specs.Element.{Element}
+use Rattle.spec_page.specs.Items.{Item, Printed, is_printed, is_skipped, is_refused, corner_count, face_count}
+use Rattle.spec_page.specs.Page.{item_lines, items_lines, if_refused, kinds_text, sizes_text, counts_line}
+use Rattle.spec_outcome.specs.Outcomes.{IsItemOf, AreItemsOf, IsElementOf, StandsFor, rounded_outcome}
 use Rattle.std.proofs.lemmas.List.{take_more}
-use Rattle.ix_page.specs.Counts.{AddsElement, HasElements}
+use Rattle.std.proofs.lemmas.List.Sums.{sum_by-append, sum_by-cons}
+use Rattle.std.proofs.lemmas.Grind.{flat_map-append}
+use Rattle.ix_page.specs.Counts.{IsTallyOf, Counts, AddsElement, HasElements}
 use Rattle.ix_page.specs.declared.tally.Tally.{Tally}
 
 -- as many corners of a page as there are exact and printed ones
@@ -25,7 +30,8 @@ lines_more before [] item = append-nil (item_lines before item) ∙ ap (λ n. it
 lines_more before (i ∷ is) item =
     ap (λ l. item_lines before i ++ l) (lines_more (before + corner_count i) is item)
     ∙ sym (append_assoc (item_lines before i) (items_lines (before + corner_count i) is) (item_lines (before + corner_count i + sum_by corner_count is) item))
-    ∙ ap (λ n. (item_lines before i ++ items_lines (before + corner_count i) is) ++ item_lines n item) (add_assoc before (corner_count i) (sum_by corner_count is))
+    ∙ ap (λ n. (item_lines before i ++ items_lines (before + corner_count i) is) ++ item_lines n item)
+    (add_assoc before (corner_count i) (sum_by corner_count is) ∙ ap (λ n. before + n) (sym (sum_by-cons corner_count i is)))
 
 -- the items of one element more
 pub items_more : (section : DataSection) (ns : List ℕ) (n : ℕ) (is : List Item) (i : Item)
@@ -45,9 +51,40 @@ elements_more section ns k d before page page' tally tally' lt old one = record 
       subst (λ (l : List ℕ). AreItemsOf 1000 section l (old.items ++ one.item ∷ [])) (sym (take_more ns k d lt))
       (items_more section (take k ns) (get_or ns k d) old.items one.item old.outcomes one.outcome);
   lines =
-      one.lines ∙ ap (λ n. page ++ item_lines n one.item) old.tally.corners ∙ ap (λ l. l ++ item_lines (sum_by corner_count old.items) one.item) old.lines
+      one.lines ∙ ap (λ n. page ++ item_lines n one.item) old.counts.corners ∙ ap (λ l. l ++ item_lines (sum_by corner_count old.items) one.item) old.lines
       ∙ append_assoc before (items_lines 0 old.items) (item_lines (sum_by corner_count old.items) one.item)
-      ∙ ap (λ n. before ++ items_lines 0 old.items ++ item_lines n one.item) (sym (zero-add (sum_by corner_count old.items)))
+      ∙ ap (λ n. before ++ (items_lines 0 old.items ++ item_lines n one.item)) (sym (zero-add (sum_by corner_count old.items)))
       ∙ ap (λ l. before ++ l) (sym (lines_more 0 old.items one.item));
-  tally = one.counted old.items old.tally;
+  counts = one.counted old.items old.counts;
 }
+
+sum_more : (f : Item → ℕ) (items : List Item) (item : Item) → sum_by f (items ++ item ∷ []) ≡ sum_by f items + f item
+sum_more f items item = sum_by-append f items (item ∷ []) ∙ ap (λ n. sum_by f items + n) (sum_by-cons f item [] ∙ add-zero (f item))
+
+count_more : (p : Item → Bool) (items : List Item) (item : Item) → count_by p (items ++ item ∷ []) ≡ count_by p items + (if p item then 1 else 0)
+count_more p items item = sum_more (λ x. if p x then 1 else 0) items item
+
+-- a converted element more is counted
+pub counts_mesh : (t t' : Tally) (e : Element) → t'.elements ≡ t.elements + 1 → t'.converted ≡ t.converted + 1 → t'.skipped ≡ t.skipped → t'.refused ≡ t.refused
+    → t'.corners ≡ t.corners + length e.corners → t'.faces ≡ t.faces + length e.faces → t'.refused_lines.items ≡ t.refused_lines.items → Counts t (Printed e) t'
+counts_mesh t t' e elements converted skipped refused corners faces lines items h = record {
+  elements = elements ∙ ap (λ n. n + 1) h.elements ∙ sym (length-append items (Printed e ∷ []));
+  converted = converted ∙ ap (λ n. n + 1) h.converted ∙ sym (count_more is_printed items (Printed e));
+  skipped = skipped ∙ h.skipped ∙ sym (add-zero _) ∙ sym (count_more is_skipped items (Printed e));
+  refused = refused ∙ h.refused ∙ sym (add-zero _) ∙ sym (count_more is_refused items (Printed e));
+  corners = corners ∙ ap (λ n. n + length e.corners) h.corners ∙ sym (sum_more corner_count items (Printed e));
+  faces = faces ∙ ap (λ n. n + length e.faces) h.faces ∙ sym (sum_more face_count items (Printed e));
+  lines = lines ∙ h.lines ∙ sym (append-nil _) ∙ sym (flat_map-append if_refused items (Printed e ∷ []));
+}
+
+-- what stands for an element that was rounded and meshed
+pub converted_item : (grid n : ℕ) (rounded : Read Body) (body : Body) (e : Element) → rounded ≡ Ok body → IsElementOf grid n body e
+    → StandsFor grid n (rounded_outcome rounded) (Printed e)
+converted_item grid n rounded body e same h =
+    subst (λ (r : Read Body). StandsFor grid n (rounded_outcome r) (Printed e)) (sym same) (e, refl, h)
+
+-- the line of the counts of a tally
+pub line_of_tally : (t : Tally) (items : List Item) → IsTallyOf t items
+    → kinds_text t.elements t.converted t.skipped t.refused ++ sizes_text t.corners t.faces ≡ counts_line items
+line_of_tally t items h i =
+    kinds_text (h.elements i) (h.converted i) (h.skipped i) (h.refused i) ++ sizes_text (h.corners i) (h.faces i)

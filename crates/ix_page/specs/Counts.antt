@@ -34,4 +34,4 @@ pub record HasElements (section : DataSection) (numbers : List ℕ) (before page
   pub items : List Item
   pub outcomes : AreItemsOf 1000 section numbers items
   pub lines : page ≡ before ++ items_lines 0 items
-  pub tally : IsTallyOf tally items
+  pub counts : IsTallyOf tally items

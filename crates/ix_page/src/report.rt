@@ -1,6 +1,6 @@
-ghost use Rattle.std.specs.Prelude.{◌≡◌, ◌++◌, ◌∷◌, [], IfOk, OnOk, List};
+ghost use Rattle.std.specs.Prelude.{◌≡◌, ◌++◌, IfOk, OnOk, List};
 ghost use Rattle.spec_page.specs.Items.{Item};
-ghost use Rattle.spec_page.specs.Page.{worded, counts_line, page_report};
+ghost use Rattle.spec_page.specs.Page.{worded, kinds_text, sizes_text, page_report};
 ghost use Rattle.ix_page.specs.Counts.{IsTallyOf};
 
 use crate::tally::Tally;
@@ -15,14 +15,20 @@ fn put_worded(text: &mut Vec<u8>, word: &[u8], number: u128) -> Result<(), Alloc
     text.extend_from_slice(buffer.format(number).as_bytes())
 }
 
-/// Appends the line of the counts.
-fn put_counts(text: &mut Vec<u8>, tally: &Tally) -> Result<(), AllocError>
-    ensures { OnOk result ((items : List Item) → IsTallyOf tally.now items → text.new.items ≡ text.old.items ++ counts_line items) }
+/// Appends how many elements there are, and how many of each kind.
+fn put_kinds(text: &mut Vec<u8>, tally: &Tally) -> Result<(), AllocError>
+    ensures { OnOk result (text.new.items ≡ text.old.items ++ kinds_text tally.now.elements tally.now.converted tally.now.skipped tally.now.refused) }
 {
     put_worded(text, b"elements ", tally.elements)?;
     put_worded(text, b" converted ", tally.converted)?;
     put_worded(text, b" skipped ", tally.skipped)?;
-    put_worded(text, b" refused ", tally.refused)?;
+    put_worded(text, b" refused ", tally.refused)
+}
+
+/// Appends how many corners and faces there are over all.
+fn put_sizes(text: &mut Vec<u8>, tally: &Tally) -> Result<(), AllocError>
+    ensures { OnOk result (text.new.items ≡ text.old.items ++ sizes_text tally.now.corners tally.now.faces) }
+{
     put_worded(text, b" corners ", tally.corners)?;
     put_worded(text, b" faces ", tally.faces)?;
     text.push(b'\n')?;
@@ -38,7 +44,8 @@ pub fn page_report(alloc: Global, tally: &Tally) -> Result<Vec<u8>, AllocError>
     ensures { IfOk result (λ text. (items : List Item) → IsTallyOf tally.now items → text.items ≡ page_report items) }
 {
     let mut text = Vec::new(alloc);
-    put_counts(&mut text, tally)?;
+    put_kinds(&mut text, tally)?;
+    put_sizes(&mut text, tally)?;
     text.extend_from_slice(&tally.refused_lines)?;
     Ok(text)
 }

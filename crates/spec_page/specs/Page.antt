@@ -45,12 +45,20 @@ if_refused (Printed e) = []
 if_refused (Skipped n) = []
 if_refused (Refused n why) = refused_line n why
 
--- how many items a page has of each kind, and how many corners and faces over all
+-- how many elements there are, and how many of each kind
+abbrev pub kinds_text : ℕ → ℕ → ℕ → ℕ → List ℕ
+kinds_text elements converted skipped refused =
+    worded (codes "elements ") elements ++ worded (codes " converted ") converted ++ worded (codes " skipped ") skipped ++ worded (codes " refused ") refused
+
+-- how many corners and faces there are over all
+abbrev pub sizes_text : ℕ → ℕ → List ℕ
+sizes_text corners faces = worded (codes " corners ") corners ++ worded (codes " faces ") faces ++ 10 ∷ []
+
+-- the line of what is counted over the items of a page
 abbrev pub counts_line : List Item → List ℕ
 counts_line items =
-    worded (codes "elements ") (length items) ++ worded (codes " converted ") (count_by is_printed items)
-    ++ worded (codes " skipped ") (count_by is_skipped items) ++ worded (codes " refused ") (count_by is_refused items)
-    ++ worded (codes " corners ") (sum_by corner_count items) ++ worded (codes " faces ") (sum_by face_count items) ++ 10 ∷ []
+    kinds_text (length items) (count_by is_printed items) (count_by is_skipped items) (count_by is_refused items)
+    ++ sizes_text (sum_by corner_count items) (sum_by face_count items)
 
 -- the report on a page: what it counts, and each refused line again
 abbrev pub page_report : List Item → List ℕ
