@@ -1,7 +1,7 @@
 -- What is found in the bytes that were read is found in those that the source had, and it is the one thing that is due.
 use Rattle.std.proofs.Common.{◌≡◌, ℕ, List, [], true, false, Option, Some, None, IfSome, ◌⊎◌, inl, inr, refl, sym, ◌∙◌, subst}
 use Rattle.std.proofs.lemmas.Bool.{true≢false}
-use Rattle.std.specs.Io.KnownBytes.{IsAtEnd}
+use Rattle.spec_outside.specs.Causes.{IsEmptied}
 use Rattle.spec_outside.specs.Ends.{Known, known}
 use Rattle.spec_table.specs.Sections.{DataSection}
 use Rattle.spec_page.specs.Items.{Item}
@@ -27,7 +27,7 @@ told (Some given) bytes P e h = subst P e h
 
 -- a source was read to its end, and this was found in its bytes
 pub found_in : (had left : Option (List ℕ)) (faults faults' : ℕ) (bytes page : List ℕ) (f : Finding)
-    → IfSome had (λ given. bytes ≡ given) → IsAtEnd left → faults' ≡ faults → IsFoundAt bytes page f → IsFoundIn (known had faults) (known left faults') page f
+    → IfSome had (λ given. bytes ≡ given) → IsEmptied had left → faults' ≡ faults → IsFoundAt bytes page f → IsFoundIn (known had faults) (known left faults') page f
 found_in had left faults faults' bytes page (Page items) e ended same h = (told had bytes (λ given. IsPageOf given page items) e h, ended, same)
 found_in had left faults faults' bytes page (Refused why) e ended same h = (told had bytes (λ given. IsFaultOf given why) e h.0, h.1, same)
 found_in had left faults faults' bytes page ReadFault e ended same h = absurd h
@@ -80,18 +80,19 @@ refuses words None faults src' page f h named = tt
 refuses words (Some given) faults src' page f h named = λ why fault. fault_due words given faults src' page f why named h fault
 
 -- an answer that was delivered is a run
-pub run_of : (words : List (List ℕ)) (had left : Option (List ℕ)) (faults faults' : ℕ) (page : List ℕ) (out out' rep rep' : Known) (answer : Answer) (status : Status) (f : Finding)
-    → Tells answer f → IsFound words (known had faults) (known left faults') page f
-    → IsDelivered answer.status page (text_of answer.report) out out' rep rep' status
+pub run_of : (words : List (List ℕ)) (had left : Option (List ℕ)) (faults faults' : ℕ) (page put text : List ℕ) (out out' rep rep' : Known) (answer : Answer) (status : Status) (f : Finding)
+    → Tells answer f → IsFound words (known had faults) (known left faults') page f → put ≡ page → text ≡ text_of answer.report
+    → IsDelivered answer.status put text out out' rep rep' status
     → IsRun words (known had faults) (known left faults') page out out' rep rep' status
-run_of words had left faults faults' page out out' rep rep' answer status f tells h delivered = record {
+run_of words had left faults faults' page put text out out' rep rep' answer status f tells h same_page same_text delivered = record {
   found = f;
   cause = h;
   converts = λ named. converts words had faults (known left faults') page f h named;
   refuses = λ named. refuses words had faults (known left faults') page f h named;
   delivery =
       subst (λ due. IsDelivered due page (report_of f) out out' rep rep' status) tells.status
-      (subst (λ (t : List ℕ). IsDelivered answer.status page t out out' rep rep' status) tells.report delivered);
+      (subst (λ (t : List ℕ). IsDelivered answer.status page t out out' rep rep' status) (same_text ∙ tells.report)
+      (subst (λ (t : List ℕ). IsDelivered answer.status t text out out' rep rep' status) same_page delivered));
 }
 
 -- A page of a tally, or want of memory, is what the answer on a tally tells.

@@ -1,7 +1,6 @@
 -- What a run finds before it writes, each with its cause.
 use Rattle.std.specs.Prelude.{◌≡◌, ◌≢◌, ℕ, true, false, List, [], IfSome, ◌⊎◌}
-use Rattle.std.specs.Io.KnownBytes.{IsAtEnd}
-use Rattle.spec_outside.specs.Causes.{Rose}
+use Rattle.spec_outside.specs.Causes.{Rose, IsEmptied}
 use Rattle.spec_outside.specs.Ends.{Known}
 use Rattle.spec_table.specs.Sections.{DataSection}
 use Rattle.spec_entity.specs.Elements.{elements}
@@ -35,7 +34,7 @@ pub record IsPageOf (given page : List ℕ) (items : List Item) : Type 0 where
 
 abbrev pub IsFoundIn : Known → Known → List ℕ → Finding → Type 0
 IsFoundIn src src' page (Page items) =
-    IfSome src.bytes (λ given. IsPageOf given page items) × IsAtEnd src'.bytes × (src'.faults ≡ src.faults)
+    IfSome src.bytes (λ given. IsPageOf given page items) × IsEmptied src.bytes src'.bytes × (src'.faults ≡ src.faults)
 IsFoundIn src src' page (Refused why) = IfSome src.bytes (λ given. IsFaultOf given why) × (page ≡ []) × (src'.faults ≡ src.faults)
 IsFoundIn src src' page ReadFault = Rose src.faults src'.faults × (page ≡ [])
 IsFoundIn src src' page NoMemory = src'.faults ≡ src.faults
