@@ -1,3 +1,3 @@
-pub mod Boxes
+pub mod BlockFaces
 pub mod Steps
-pub mod Items
+pub mod ItemsLeft

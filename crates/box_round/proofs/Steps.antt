@@ -1,10 +1,10 @@
 -- Rounding keeps the order of coordinates, and the tests of corners say what they test.
-use Rattle.std.proofs.Common.{◌≡◌, ◌≤◌, ◌^◌, ℤ, pos, ◌+ℤ◌, ◌*ℤ◌, ◌<ℤ◌, ◌≤ℤ◌, unsigned_abs, nat_le, Bool, true, false, ◌&&◌, refl, sym, subst, true≢false, arith}
-use Rattle.std.specs.Int.{int_div_euclid}
+use Rattle.std.proofs.Common.{◌≡◌, ◌≤◌, ◌^◌, ℤ, pos, ◌+ℤ◌, ◌*ℤ◌, ◌<ℤ◌, ◌≤ℤ◌, unsigned_abs, Bool, true, false, ◌&&◌, refl, sym, true≢false, arith}
+use Rattle.std.proofs.lemmas.Bool.{leb-true}
 use Rattle.std.proofs.lemmas.Int.{ints}
 use Rattle.spec_space.specs.declared.Vector.{Vector}
 use Rattle.spec_solid.specs.Extrusions.{plus}
-use Rattle.spec_expression.specs.Sizes.{AreExtents}
+use Rattle.spec_expression.specs.Sizes.{IsExtent, AreExtents}
 use Rattle.spec_round.specs.Rounded.{steps, on_grid, is_step, is_near}
 use Rattle.ix_num.proofs.Division.{floor_low, floor_high}
 use Rattle.grid_boxes.specs.Ranges.{AreSteps, IsBelow}
@@ -40,10 +40,16 @@ both true t e = (refl, e)
 both false t e = absurd (true≢false (sym e))
 
 from_test : (n : ℤ) → is_step n ≡ true → unsigned_abs n ≤ 2 ^ 20
-from_test n e = omega (arith, e)
+from_test n e = leb-true (unsigned_abs n) (2 ^ 20) e
 
 pub near_steps : (v : Vector) → is_near v ≡ true → AreSteps v
 near_steps v e =
     let first = both (is_step v.x) (is_step v.y && is_step v.z) e in
     let second = both (is_step v.y) (is_step v.z) first.1 in
     record { x = from_test v.x first.0; y = from_test v.y second.0; z = from_test v.z second.1 }
+
+pub extent_size : (l : ℤ) → IsExtent l → unsigned_abs l ≤ 10 ^ 16
+extent_size l extent = from l extent.above extent.most
+  where
+    from : (l : ℤ) → pos 0 ≤ℤ l → l ≤ℤ pos 10000000000000000 → unsigned_abs l ≤ 10000000000000000
+    from l h k = omega (arith, ints)

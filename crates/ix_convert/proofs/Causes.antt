@@ -11,7 +11,7 @@ use Rattle.spec_run.specs.Inputs.{IsInput, IsFaultOf}
 use Rattle.spec_run.specs.Findings.{Finding, Page, Refused, ReadFault, NoMemory, Usage, IsPageOf, IsFoundIn, IsFound, IsOrWants, IsPageOrWants}
 use Rattle.spec_run.specs.Reports.{report_of}
 use Rattle.ix_page.specs.Counts.{IsTallyOf}
-use Rattle.ix_page.specs.declared.counts.Tally.{Tally}
+use Rattle.ix_page.specs.declared.tally.Tally.{Tally}
 use Rattle.ix_convert.specs.Answers.{text_of, Tells, TellsOrWants, IsFoundAt}
 use Rattle.ix_convert.specs.Runs.{IsRun}
 use Rattle.ix_convert.specs.Statuses.{status_of, has_page}

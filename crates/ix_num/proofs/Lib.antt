@@ -3,3 +3,4 @@ pub mod Division
 pub mod Far
 pub mod Rounding
 pub mod Roots
+pub mod Fractions

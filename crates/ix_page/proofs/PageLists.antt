@@ -10,7 +10,7 @@ use Rattle.spec_page.specs.Page.{item_lines, items_lines}
 use Rattle.spec_outcome.specs.Outcomes.{IsItemOf, AreItemsOf}
 use Rattle.std.proofs.lemmas.List.{take_more}
 use Rattle.ix_page.specs.Counts.{AddsElement, HasElements}
-use Rattle.ix_page.specs.declared.counts.Tally.{Tally}
+use Rattle.ix_page.specs.declared.tally.Tally.{Tally}
 
 -- as many corners of a page as there are exact and printed ones
 pub length-page_corners : (cs : List Corner) (vs : List (List ℤ)) → length (page_corners cs vs) ≡ min (length cs) (length vs)

@@ -5,7 +5,7 @@ use Rattle.spec_table.specs.Sections.{DataSection}
 use Rattle.spec_page.specs.Items.{Item, is_printed, is_skipped, is_refused, corner_count, face_count}
 use Rattle.spec_page.specs.Page.{item_lines, items_lines, if_refused}
 use Rattle.spec_outcome.specs.Outcomes.{IsItemOf, AreItemsOf}
-use Rattle.ix_page.specs.declared.counts.Tally.{Tally}
+use Rattle.ix_page.specs.declared.tally.Tally.{Tally}
 
 -- the counts are those of these items, and the refused lines theirs
 pub record IsTallyOf (tally : Tally) (items : List Item) : Type 0 where

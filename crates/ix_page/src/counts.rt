@@ -4,6 +4,7 @@ ghost use Rattle.ix_page.specs.Made.{item_of};
 ghost use Rattle.ix_page.specs.Counts.{IsTallyOf, Counts};
 
 use crate::element::Made;
+use crate::tally::Tally;
 use obj_text::write_refused;
 use plain_engine::PrintedMesh;
 use spec_refusal::Refusal;
@@ -18,24 +19,6 @@ fn corner_and_face_count(mesh: &PrintedMesh) -> (usize, usize)
         mesh.mesh.corners.len().min(mesh.printed.len()),
         mesh.mesh.faces.len(),
     )
-}
-
-/// What a page counts: its elements by what became of them, and the corners and faces of all. The
-/// lines of refused elements stand on the page and again in the report.
-#[derive(Drop)]
-pub struct Tally {
-    pub elements: u128,
-    pub converted: u128,
-    pub skipped: u128,
-    pub refused: u128,
-    pub corners: u128,
-    pub faces: u128,
-    pub refused_lines: Vec<u8>,
-    ghost corners_bound: { corners ≤ elements * 2 ^ 64 },
-    ghost faces_bound: { faces ≤ elements * 2 ^ 64 },
-    ghost converted_bound: { converted ≤ elements },
-    ghost skipped_bound: { skipped ≤ elements },
-    ghost refused_bound: { refused ≤ elements },
 }
 
 impl Tally {

@@ -1,4 +1,4 @@
-ghost use Rattle.std.specs.Prelude.{◌≡◌, ◌≤◌, ◌^◌, ◌<◌, ◌++◌, IfOk, OnOk, map};
+ghost use Rattle.std.specs.Prelude.{ℕ, ◌≡◌, ◌≤◌, ◌^◌, ◌<◌, ◌++◌, IfOk, OnOk, map};
 ghost use Rattle.spec_table.specs.Sections.{IsSimple};
 ghost use Rattle.spec_expression.specs.Expressions.{triangles};
 ghost use Rattle.spec_page.specs.Page.{item_lines};

@@ -6,7 +6,7 @@ ghost use Rattle.spec_page.specs.Page.{page_text};
 ghost use Rattle.spec_outcome.specs.Outcomes.{AreItemsOf};
 ghost use Rattle.ix_page.specs.Counts.{IsTallyOf, AddsElement, HasElements};
 
-use crate::counts::Tally;
+use crate::tally::Tally;
 use crate::element::{made_element, put_item};
 use entity_reader::elements;
 use obj_text::{write_end, write_head};

@@ -5,7 +5,8 @@ mod counts;
 mod element;
 mod items;
 mod report;
+mod tally;
 
-pub use counts::Tally;
 pub use items::write_page;
 pub use report::page_report;
+pub use tally::Tally;

@@ -3,7 +3,7 @@ ghost use Rattle.spec_page.specs.Items.{Item};
 ghost use Rattle.spec_page.specs.Page.{worded, counts_line, page_report};
 ghost use Rattle.ix_page.specs.Counts.{IsTallyOf};
 
-use crate::counts::Tally;
+use crate::tally::Tally;
 use std::alloc::{AllocError, Global};
 
 /// Appends a number behind a word.

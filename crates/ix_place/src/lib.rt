@@ -2,7 +2,18 @@
 //! memory.
 #![tactic(auto)]
 
+mod axes;
+mod chain;
+mod direction;
+mod frame;
+mod half;
+mod length;
+mod map;
+mod matrix;
+#[cfg(test)]
+mod tests;
 mod types;
+mod vector;
 
-pub use spec_place::{HalfSpace, PlaceFault, Prefix};
+pub use spec_place::{HalfSpace, PlaceFault, Prefix, Transform};
 pub use types::{Dir, Frame, LengthUnit, Map};

@@ -37,14 +37,14 @@ turned_to side v = if int_lt (dot side v) (pos 0) then reversed v else v
 abbrev pub stretched : Vector → ℤ → Vector
 stretched axis scale = divided (times scale axis) (pos (10 ^ 12))
 
--- the three axes times their scales, the second turned to the side of Axis2, y where that is unset
-abbrev pub scaled_axes : Axes → Option Vector → Vector → Axes
-scaled_axes a second s = record { x = stretched a.x s.x; y = stretched (turned_to (unwrap_or second along_y) a.y) s.y; z = stretched a.z s.z }
+-- the three axes times their scales, the second on the side of another vector
+abbrev pub scaled_axes : Axes → Vector → Vector → Axes
+scaled_axes a side s = record { x = stretched a.x s.x; y = stretched (turned_to side a.y) s.y; z = stretched a.z s.z }
 
--- the operator at a place with Axis1, Axis2, Axis3 and three scales
+-- the operator at a place with Axis1, Axis2, Axis3 and three scales; Axis2 is y where it is unset
 abbrev pub operator_map : Vector → Option Vector → Option Vector → Option Vector → Vector → Placed
 operator_map at first second third s =
-    if are_scales s then next (axes third first) (λ a. Ok (of_columns (scaled_axes a second s) at)) else Err ScaleOutOfRange
+    if are_scales s then next (axes third first) (λ a. Ok (of_columns (scaled_axes a (unwrap_or second along_y) s) at)) else Err ScaleOutOfRange
 
 -- the corner of a point in nanometres under a map, in grid steps of so many micrometres
 abbrev pub corner : Transform → ℕ → Vector → Vector

@@ -53,14 +53,13 @@ composed a b = record {
 abbrev pub with_clamped : Transform → Transform
 with_clamped t = record { x = each clamped t.x; y = each clamped t.y; z = each clamped t.z; off = t.off }
 
+-- the transposed matrix times a vector, exact, in units of 10^-9
+abbrev pub turned_back : Transform → Vector → Vector
+turned_back t v = record { x = dot (first_column t) v; y = dot (second_column t) v; z = dot (third_column t) v }
+
 -- the transposed matrix, and the offset turned back
 abbrev pub inverse : Transform → Transform
-inverse t = record {
-  x = first_column t;
-  y = second_column t;
-  z = third_column t;
-  off = divided (reversed (record { x = dot (first_column t) t.off; y = dot (second_column t) t.off; z = dot (third_column t) t.off })) one;
-}
+inverse t = record { x = first_column t; y = second_column t; z = third_column t; off = divided (reversed (turned_back t t.off)) one }
 
 -- no entry of the matrix has a size above n
 abbrev pub has_entries_within : ℕ → Transform → Bool

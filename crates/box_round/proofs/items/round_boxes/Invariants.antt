@@ -1,4 +1,4 @@
-use Rattle.box_round.proofs.Items.{AreRounded}
+use Rattle.box_round.proofs.ItemsLeft.{AreRounded}
 use Rattle.box_round.proofs.items.round_boxes.Given as goal
 
 abbrev pub invariant-loop-item : goal.invariant-loop-item
