@@ -21,7 +21,6 @@ use Rattle.spec_entity.specs.Elements.{Representation, representation, placement
 use Rattle.box_expressions.specs.declared.solids.BoxExpression.{BoxExpression}
 use Rattle.box_expressions.specs.Views.{expression_of}
 use Rattle.box_reader.specs.declared.faults.ElementFault.{ElementFault}
-use Rattle.box_reader.specs.declared.faults.ElementFault.TheVariants.{Refused, NoMemory}
 use Rattle.box_reader.specs.Views.{ReadsBody}
 
 -- what holds of all that can follow holds of what is read

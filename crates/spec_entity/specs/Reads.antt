@@ -1,5 +1,5 @@
 -- Reading in order: what is read, or the first refusal.
-use Rattle.std.specs.Prelude.{ℕ, ℤ, Bool, true, false, List, [], ◌∷◌, map, Option, Some, None, is_none, Result, Ok, Err}
+use Rattle.std.specs.Prelude.{ℕ, ℤ, Bool, false, List, [], ◌∷◌, map, Option, Some, None, is_none, Ok, Err}
 use Rattle.std.specs.List.{list_any}
 use Rattle.spec_step.specs.Spans.{bytes_at}
 use Rattle.spec_step.specs.declared.tree.Param.{Param}
