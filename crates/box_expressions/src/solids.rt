@@ -7,7 +7,10 @@ use sqlite_items::Boxed;
 #[derive(Debug, Drop)]
 pub enum BoxExpression {
     /// A block (IfcBlock), or the sweep of a rectangle along z (IfcExtrudedAreaSolid).
-    Box { at: u64, placed: PlacedBox },
+    Box {
+        at: u64,
+        placed: PlacedBox,
+    },
     /// Two solids combined (IfcBooleanResult, IfcBooleanClippingResult).
     Pair {
         at: u64,

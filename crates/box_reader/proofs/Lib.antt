@@ -1,5 +1,4 @@
-mod Simple
 mod Swept
-mod Firsts
 mod Deeper
-mod Read
+mod Counts
+mod Chain

@@ -1,8 +1,12 @@
 -- The extrusion of a rectangle that is centred on 0 is a block from its least corner.
-use Rattle.std.proofs.Common.{◌≡◌, ℤ, pos, ◌+ℤ◌, List, [], ◌∷◌, arith}
+use Rattle.std.proofs.Common.{◌≡◌, ℕ, ℤ, pos, ◌+ℤ◌, List, [], ◌∷◌, sym, ◌∙◌, ap, arith}
 use Rattle.std.proofs.lemmas.Int.{ints}
 use Rattle.spec_space.specs.declared.Vector.{Vector}
-use Rattle.spec_entity.specs.Expressions.{lower, block_faces, prism_faces}
+use Rattle.spec_expression.specs.Expressions.{Faces, lower, block_faces, prism_faces}
+use Rattle.box_expressions.specs.declared.placed.PlacedBox.{PlacedBox}
+use Rattle.box_expressions.specs.declared.solids.BoxExpression.TheVariants.{Box}
+use Rattle.box_expressions.specs.Views.{expression_of}
+use Rattle.box_expressions.proofs.Leaf.{box_read}
 
 nothing_added : (a : ℤ) → a +ℤ pos 0 ≡ a
 nothing_added a = omega (arith, ints)
@@ -31,10 +35,17 @@ same_faces : (x y u v w p q r s t x' y' u' v' w' p' q' r' s' t' : ℤ) → x ≡
     → faces_between x y u v w p q r s t ≡ faces_between x' y' u' v' w' p' q' r' s' t'
 same_faces x y u v w p q r s t x' y' u' v' w' p' q' r' s' t' a b c d e f g h k l = λ i. faces_between (a i) (b i) (c i) (d i) (e i) (f i) (g i) (h i) (k i) (l i)
 
-pub prism_is_block : (x y depth : ℤ) → prism_faces x y depth ≡ block_faces (record { x = lower x; y = lower y; z = pos 0 }) (record { x = x; y = y; z = depth })
+prism_is_block : (x y depth : ℤ) → prism_faces x y depth ≡ block_faces (record { x = lower x; y = lower y; z = pos 0 }) (record { x = x; y = y; z = depth })
 prism_is_block x y depth =
     let a = lower x in
     let b = lower y in
     same_faces a b (a +ℤ x) (b +ℤ y) (pos 0) (a +ℤ pos 0) (b +ℤ pos 0) ((a +ℤ x) +ℤ pos 0) ((b +ℤ y) +ℤ pos 0) (pos 0 +ℤ depth)
     (a +ℤ pos 0) (b +ℤ pos 0) (a +ℤ (pos 0 +ℤ x)) (b +ℤ (pos 0 +ℤ y)) (pos 0 +ℤ pos 0) (a +ℤ (pos 0 +ℤ pos 0)) (b +ℤ (pos 0 +ℤ pos 0)) (a +ℤ ((pos 0 +ℤ x) +ℤ pos 0)) (b +ℤ ((pos 0 +ℤ y) +ℤ pos 0)) (pos 0 +ℤ (pos 0 +ℤ depth))
     (omega (arith, ints)) (omega (arith, ints)) (omega (arith, ints)) (omega (arith, ints)) (omega (arith, ints)) (omega (arith, ints)) (omega (arith, ints)) (omega (arith, ints)) (omega (arith, ints)) (omega (arith, ints))
+
+pub prism_of_box : (at : ℕ) (placed : PlacedBox) (x y z : ℤ) → placed.low.x ≡ lower x → placed.low.y ≡ lower y → placed.low.z ≡ pos 0
+    → placed.size.x ≡ x → placed.size.y ≡ y → placed.size.z ≡ z → expression_of (Box at placed) ≡ Faces at (prism_faces x y z)
+prism_of_box at placed x y z left front bottom wide deep tall =
+    box_read at placed
+    ∙ ap (Faces at) ((λ i. block_faces (record { x = left i; y = front i; z = bottom i }) (record { x = wide i; y = deep i; z = tall i }))
+    ∙ sym (prism_is_block x y z))

@@ -1,17 +1,13 @@
-//! Elements of IFC4 that are made of boxes: what is read of a file, or why an element is refused.
+//! Elements of IFC4 that are made of boxes: their solids, or why an element is refused.
 #![tactic(auto)]
 
 mod bodies;
-mod elements;
-mod kinds;
-mod numbers;
-mod points;
+mod faults;
+mod primitives;
+mod products;
 mod solids;
 #[cfg(test)]
 mod tests;
-mod units;
 
 pub use bodies::element_body;
-pub use solids::{BoxExpression, ElementFault, Operator};
-pub use spec_entity::{Refusal, UnitFault};
-pub use units::length_unit;
+pub use faults::ElementFault;

@@ -5,7 +5,7 @@ use Rattle.std.proofs.lemmas.Slice.Eq.{bytes_eq-Decides}
 use Rattle.std.specs.List.{find, list_all}
 use Rattle.std.specs.Str.{bytes_eq, str_to_ascii_lowercase}
 use Rattle.std.specs.Option.{option_map}
-use Rattle.ifc_kinds.specs.Keywords.{keyword_of, is_word, is_keyword}
+use Rattle.ifc_kinds.specs.Keywords.{keyword_of, is_spelling_of, is_keyword}
 use Rattle.ifc_kinds.specs.Rows.{Row, Word, plain, kind_with}
 use Rattle.ifc_kinds.specs.declared.kind.Kind.{Kind}
 use Rattle.ifc_kinds.specs.declared.kind.Kind.TheVariants as kind
@@ -115,28 +115,28 @@ one_kind kind.Polyline = refl
 one_kind kind.IndexedPolyCurve = refl
 one_kind kind.CartesianPointList2d = refl
 
-named_word : (text : List ℕ) (o : Option Word) → find (λ w. is_word w.1 text) table ≡ o → IfSome (option_map (λ w. w.0) o) (λ k. is_keyword k text ≡ true)
+named_word : (text : List ℕ) (o : Option Word) → find (λ w. is_spelling_of w.1 text) table ≡ o → IfSome (option_map (λ w. w.0) o) (λ k. is_keyword k text ≡ true)
 named_word text None e = tt
 named_word text (Some r) e =
-    let f = found (λ w. is_word w.1 text) (λ w. bytes_eq w.1 (keyword_of w.0)) table r right e in
-    subst (λ w. is_word w text ≡ true) ((bytes_eq-Decides r.1 (keyword_of r.0)).0 f.1) f.0
+    let f = found (λ w. is_spelling_of w.1 text) (λ w. bytes_eq w.1 (keyword_of w.0)) table r right e in
+    subst (λ w. is_spelling_of w text ≡ true) ((bytes_eq-Decides r.1 (keyword_of r.0)).0 f.1) f.0
 
 -- the kind that is found has the keyword
 pub named : (text : List ℕ) → IfSome (kind_with table text) (λ k. is_keyword k text ≡ true)
-named text = named_word text (find (λ w. is_word w.1 text) table) refl
+named text = named_word text (find (λ w. is_spelling_of w.1 text) table) refl
 
 -- the kind that has the keyword is found
 pub known : (text : List ℕ) (k : Kind) → is_keyword k text ≡ true → kind_with table text ≡ Some k
 known text k h = ap first_of (sym ((bytes_eq-Decides (str_to_ascii_lowercase (keyword_of k)) (str_to_ascii_lowercase text)).0 h)) ∙ one_kind k
 
-plain_found : (text : List ℕ) (row : Row) (rows : List Row) (b : Bool) → is_word row.1.now text ≡ b
-    → kind_with (map plain rows) text ≡ option_map (λ r. r.0) (find (λ r. is_word r.1.now text) rows)
-    → option_map (λ w. w.0) (cond b (Some (plain row)) (find (λ w. is_word w.1 text) (map plain rows)))
-    ≡ option_map (λ r. r.0) (cond b (Some row) (find (λ r. is_word r.1.now text) rows))
+plain_found : (text : List ℕ) (row : Row) (rows : List Row) (b : Bool) → is_spelling_of row.1.now text ≡ b
+    → kind_with (map plain rows) text ≡ option_map (λ r. r.0) (find (λ r. is_spelling_of r.1.now text) rows)
+    → option_map (λ w. w.0) (cond b (Some (plain row)) (find (λ w. is_spelling_of w.1 text) (map plain rows)))
+    ≡ option_map (λ r. r.0) (cond b (Some row) (find (λ r. is_spelling_of r.1.now text) rows))
 plain_found text row rows true e h = refl
 plain_found text row rows false e h = h
 
 -- the kind of a row that was found
-pub same_kind : (text : List ℕ) (rows : List Row) → kind_with (map plain rows) text ≡ option_map (λ r. r.0) (find (λ r. is_word r.1.now text) rows)
+pub same_kind : (text : List ℕ) (rows : List Row) → kind_with (map plain rows) text ≡ option_map (λ r. r.0) (find (λ r. is_spelling_of r.1.now text) rows)
 same_kind text [] = refl
-same_kind text (row ∷ rows) = plain_found text row rows (is_word row.1.now text) refl (same_kind text rows)
+same_kind text (row ∷ rows) = plain_found text row rows (is_spelling_of row.1.now text) refl (same_kind text rows)

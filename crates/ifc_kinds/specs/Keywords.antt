@@ -1,6 +1,7 @@
 -- The keywords of the entities of IFC4 that are read, and the building elements among them.
-use Rattle.std.specs.Prelude.{ℕ, Bool, true, false, List, codes}
-use Rattle.std.specs.Str.{str_eq_ignore_ascii_case}
+use Rattle.std.specs.Prelude.{ℕ, Bool, List, [], ◌∷◌, codes}
+use Rattle.std.specs.List.{list_any}
+use Rattle.std.specs.Str.{bytes_eq, str_eq_ignore_ascii_case}
 use Rattle.ifc_kinds.specs.declared.kind.Kind.{Kind}
 use Rattle.ifc_kinds.specs.declared.kind.Kind.TheVariants as kind
 
@@ -86,48 +87,23 @@ keyword_of kind.IndexedPolyCurve = codes "IFCINDEXEDPOLYCURVE"
 keyword_of kind.CartesianPointList2d = codes "IFCCARTESIANPOINTLIST2D"
 
 -- the letters are those of the word, in any case
-abbrev pub is_word : List ℕ → List ℕ → Bool
-is_word word text = str_eq_ignore_ascii_case word text
+abbrev pub is_spelling_of : List ℕ → List ℕ → Bool
+is_spelling_of word text = str_eq_ignore_ascii_case word text
 
 -- the word is the keyword of the kind
 abbrev pub is_keyword : Kind → List ℕ → Bool
-is_keyword k text = is_word (keyword_of k) text
+is_keyword k text = is_spelling_of (keyword_of k) text
 
--- whether the kind is a building element
+-- the building elements
+abbrev pub element_kinds : List Kind
+element_kinds =
+    kind.Beam ∷ kind.BeamStandardCase ∷ kind.BuildingElementPart ∷ kind.BuildingElementProxy ∷ kind.Chimney ∷ kind.Column ∷
+    kind.ColumnStandardCase ∷ kind.Covering ∷ kind.CurtainWall ∷ kind.Door ∷ kind.DoorStandardCase ∷ kind.ElementAssembly ∷
+    kind.Footing ∷ kind.FurnishingElement ∷ kind.Furniture ∷ kind.Member ∷ kind.MemberStandardCase ∷ kind.Pile ∷
+    kind.Plate ∷ kind.PlateStandardCase ∷ kind.Railing ∷ kind.Ramp ∷ kind.RampFlight ∷ kind.Roof ∷
+    kind.ShadingDevice ∷ kind.Slab ∷ kind.SlabElementedCase ∷ kind.SlabStandardCase ∷ kind.Stair ∷ kind.StairFlight ∷
+    kind.Wall ∷ kind.WallElementedCase ∷ kind.WallStandardCase ∷ kind.Window ∷ kind.WindowStandardCase ∷ []
+
+-- the kind is one of them; no two kinds have one keyword
 abbrev pub is_element : Kind → Bool
-is_element kind.Beam = true
-is_element kind.BeamStandardCase = true
-is_element kind.BuildingElementPart = true
-is_element kind.BuildingElementProxy = true
-is_element kind.Chimney = true
-is_element kind.Column = true
-is_element kind.ColumnStandardCase = true
-is_element kind.Covering = true
-is_element kind.CurtainWall = true
-is_element kind.Door = true
-is_element kind.DoorStandardCase = true
-is_element kind.ElementAssembly = true
-is_element kind.Footing = true
-is_element kind.FurnishingElement = true
-is_element kind.Furniture = true
-is_element kind.Member = true
-is_element kind.MemberStandardCase = true
-is_element kind.Pile = true
-is_element kind.Plate = true
-is_element kind.PlateStandardCase = true
-is_element kind.Railing = true
-is_element kind.Ramp = true
-is_element kind.RampFlight = true
-is_element kind.Roof = true
-is_element kind.ShadingDevice = true
-is_element kind.Slab = true
-is_element kind.SlabElementedCase = true
-is_element kind.SlabStandardCase = true
-is_element kind.Stair = true
-is_element kind.StairFlight = true
-is_element kind.Wall = true
-is_element kind.WallElementedCase = true
-is_element kind.WallStandardCase = true
-is_element kind.Window = true
-is_element kind.WindowStandardCase = true
-is_element k = false
+is_element k = list_any (λ e. bytes_eq (keyword_of e) (keyword_of k)) element_kinds

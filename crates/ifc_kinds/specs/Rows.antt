@@ -3,7 +3,7 @@ use Rattle.std.specs.Prelude.{ℕ, List, Option}
 use Rattle.std.specs.Borrow.{Bor}
 use Rattle.std.specs.List.{find}
 use Rattle.std.specs.Option.{option_map}
-use Rattle.ifc_kinds.specs.Keywords.{is_word}
+use Rattle.ifc_kinds.specs.Keywords.{is_spelling_of}
 use Rattle.ifc_kinds.specs.declared.kind.Kind.{Kind}
 use Rattle.ifc_kinds.specs.declared.table.Group.{Group}
 
@@ -20,4 +20,4 @@ plain row = (row.0, row.1.now)
 
 -- the kind of the first keyword that is this word
 abbrev pub kind_with : List Word → List ℕ → Option Kind
-kind_with words text = option_map (λ w. w.0) (find (λ w. is_word w.1 text) words)
+kind_with words text = option_map (λ w. w.0) (find (λ w. is_spelling_of w.1 text) words)

@@ -1,6 +1,6 @@
 ghost use Rattle.std.specs.Prelude.{◌≡◌, true, IfSome};
 ghost use Rattle.ifc_kinds.specs.declared.kind.Kind.{Kind};
-ghost use Rattle.ifc_kinds.specs.Keywords.{keyword_of, is_keyword, is_element};
+ghost use Rattle.ifc_kinds.specs.Keywords.{keyword_of, is_keyword, element_kinds, is_element};
 
 use crate::table::{Group, ROWS, kind_with};
 
@@ -103,6 +103,52 @@ impl Kind {
     {
         ROWS[self as usize].1
     }
+}
+
+/// The building elements, in the order of the kinds.
+const ELEMENTS: [Kind; 35] = [
+    Kind::Beam,
+    Kind::BeamStandardCase,
+    Kind::BuildingElementPart,
+    Kind::BuildingElementProxy,
+    Kind::Chimney,
+    Kind::Column,
+    Kind::ColumnStandardCase,
+    Kind::Covering,
+    Kind::CurtainWall,
+    Kind::Door,
+    Kind::DoorStandardCase,
+    Kind::ElementAssembly,
+    Kind::Footing,
+    Kind::FurnishingElement,
+    Kind::Furniture,
+    Kind::Member,
+    Kind::MemberStandardCase,
+    Kind::Pile,
+    Kind::Plate,
+    Kind::PlateStandardCase,
+    Kind::Railing,
+    Kind::Ramp,
+    Kind::RampFlight,
+    Kind::Roof,
+    Kind::ShadingDevice,
+    Kind::Slab,
+    Kind::SlabElementedCase,
+    Kind::SlabStandardCase,
+    Kind::Stair,
+    Kind::StairFlight,
+    Kind::Wall,
+    Kind::WallElementedCase,
+    Kind::WallStandardCase,
+    Kind::Window,
+    Kind::WindowStandardCase,
+];
+
+/// The kinds of building elements.
+pub fn element_kinds() -> &'static [Kind]
+    ensures { result.now ≡ element_kinds }
+{
+    &ELEMENTS
 }
 
 /// Whether the kind is a building element, which gets a line of its own on the page.

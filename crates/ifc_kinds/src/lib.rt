@@ -6,4 +6,4 @@ mod table;
 #[cfg(test)]
 mod tests;
 
-pub use kind::{Kind, is_element};
+pub use kind::{Kind, element_kinds, is_element};

@@ -1,7 +1,7 @@
 ghost use Rattle.std.specs.Prelude.{◌≡◌, map};
 ghost use Rattle.std.specs.List.{find};
 ghost use Rattle.std.specs.Option.{option_map};
-ghost use Rattle.ifc_kinds.specs.Keywords.{is_word};
+ghost use Rattle.ifc_kinds.specs.Keywords.{is_spelling_of};
 ghost use Rattle.ifc_kinds.specs.Rows.{plain, kind_with};
 
 use crate::kind::Kind;
@@ -232,7 +232,7 @@ pub const ROWS: [Row; 78] = [
 
 /// The first row with this keyword, in letters of any case.
 fn row_with(rows: &[Row], keyword: &[u8]) -> Option<Row>
-    ensures { result ≡ find (λ row. is_word row.1.now keyword.now) rows.now }
+    ensures { result ≡ find (λ row. is_spelling_of row.1.now keyword.now) rows.now }
 {
     rows.iter()
         .copied()

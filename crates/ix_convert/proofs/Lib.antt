@@ -1,2 +1,2 @@
-pub mod Exact
-pub mod Texts
+pub mod OneInput
+pub mod Causes

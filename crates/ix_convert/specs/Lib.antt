@@ -1,2 +1,4 @@
 pub mod Statuses
-pub mod Writing
+pub mod Answers
+pub mod Deliveries
+pub mod Runs

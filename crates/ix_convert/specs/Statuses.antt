@@ -1,7 +1,8 @@
--- The statuses: their numbers, and which one each outcome has.
-use Rattle.std.specs.Prelude.{◌≡◌, ℕ, ◌⊎◌}
-use Rattle.spec_run.specs.declared.Outcome.{Outcome}
-use Rattle.spec_run.specs.declared.Outcome.TheVariants as outcome
+-- The statuses: their numbers, and which one each finding has.
+use Rattle.std.specs.Prelude.{ℕ, ◌==◌, Bool, true, false, count_by, if◌then◌else◌}
+use Rattle.spec_page.specs.Items.{is_refused}
+use Rattle.spec_run.specs.Findings.{Finding}
+use Rattle.spec_run.specs.Findings as finding
 use Rattle.ix_convert.specs.declared.status.Status.{Status}
 use Rattle.ix_convert.specs.declared.status.Status.TheVariants.{Done, SomeRefused, FileRefused, ReadFault, WriteFault, NoMemory, Usage, CheckFailed}
 
@@ -15,18 +16,24 @@ code_of NoMemory = 5
 code_of Usage = 6
 code_of CheckFailed = 7
 
-abbrev pub status_of : Outcome → Status
-status_of (outcome.Page corners faces) = Done
-status_of (outcome.NotBuilt at) = FileRefused
-status_of outcome.TooLarge = FileRefused
-status_of outcome.ReadFault = ReadFault
-status_of outcome.NoMemory = NoMemory
-status_of outcome.Usage = Usage
+-- the status of a page with so many refused elements
+abbrev pub page_status : ℕ → Status
+page_status refused = if refused == 0 then Done else SomeRefused
 
--- this status, or one of a fault of reading, of want of memory, or of a fault of writing
-abbrev pub Yields : Status → Status → Type 0
-Yields result due = (((result ≡ due) ⊎ (result ≡ ReadFault)) ⊎ (result ≡ NoMemory)) ⊎ (result ≡ WriteFault)
+abbrev pub status_of : Finding → Status
+status_of (finding.Page items) = page_status (count_by is_refused items)
+status_of (finding.Refused why) = FileRefused
+status_of finding.ReadFault = ReadFault
+status_of finding.NoMemory = NoMemory
+status_of finding.Usage = Usage
 
--- a refusal before anything is written
-abbrev pub IsRefusal : Status → Type 0
-IsRefusal result = ((result ≡ FileRefused) ⊎ (result ≡ ReadFault)) ⊎ ((result ≡ NoMemory) ⊎ (result ≡ Usage))
+-- a page goes with this status
+abbrev pub has_page : Status → Bool
+has_page Done = true
+has_page SomeRefused = true
+has_page FileRefused = false
+has_page ReadFault = false
+has_page WriteFault = false
+has_page NoMemory = false
+has_page Usage = false
+has_page CheckFailed = false

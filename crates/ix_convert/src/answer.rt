@@ -1,105 +1,168 @@
-ghost use Rattle.std.specs.Prelude.{◌≡◌, ◌≢◌, ◌≤◌, ◌⊎◌, [], length, map, true, false, IfOk, IfSome, string_bytes};
-ghost use Rattle.spec_outside.specs.Causes.{Rose};
-ghost use Rattle.spec_step.specs.Sound.{AreLines};
-ghost use Rattle.spec_headline.specs.Headline.{IsPrintOf};
-ghost use Rattle.spec_run.specs.Walls.{wall_body};
+ghost use Rattle.std.specs.Prelude.{◌≡◌, ◌≤◌, ℕ, List, [], length, map, true, false, IfOk, IfErr, string_bytes};
+ghost use Rattle.spec_page.specs.Items.{Item};
+ghost use Rattle.spec_outside.specs.Ends.{known};
 ghost use Rattle.spec_run.specs.Words.{names_convert};
 ghost use Rattle.spec_run.specs.Inputs.{most_bytes};
-ghost use Rattle.spec_run.specs.Runs.{IsFoundIn, IsFound, IsPage};
-ghost use Rattle.plain_engine.specs.Prints.{element_of};
+ghost use Rattle.spec_run.specs.Findings.{Finding, Page, Refused, NoMemory, IsPageOf, IsFoundIn, IsFound};
+ghost use Rattle.ix_page.specs.Counts.{IsTallyOf};
+ghost use Rattle.ix_convert.specs.Answers.{Tells, TellsOrWants, IsFoundAt, HasReason, LeavesBlank, unread_finding};
+ghost use Rattle.ix_convert.specs.Statuses.{page_status};
 
 use crate::job::Job;
-use crate::page::put_page;
-use box_lines::solid_of_lines;
+use crate::open::{ConvertFault, open_file};
+use crate::report::{Report, fault_report};
+use crate::status::Status;
 use ix_outside::{Source, TakeFault, read_whole};
-use plain_engine::{PrintedMesh, make_mesh};
-use spec_run::Outcome;
+use ix_page::{Tally, page_report, write_page};
+use spec_run::FileFault;
 use std::alloc::{AllocError, Global};
-use step_text::{Plain, PlainFault, plain_file};
 
 /// The greatest number of bytes that are read.
 const MOST_BYTES: usize = 1 << 27;
 
-/// How many corners and faces a mesh has.
-fn counts(mesh: &PrintedMesh) -> (usize, usize)
-    ensures corners { result.0 ≡ length (element_of mesh.now).corners }
-    ensures faces { result.1 ≡ length (element_of mesh.now).faces }
-{
-    (
-        mesh.mesh.corners.len().min(mesh.printed.len()),
-        mesh.mesh.faces.len(),
-    )
+/// The status that is due, and the text that is to be reported with it.
+#[derive(Drop)]
+pub struct Answer {
+    pub status: Status,
+    pub report: Report,
 }
 
-/// The mesh of the wall of a file that keeps the rules. The error is want of memory.
-fn wall_mesh(alloc: Global, source: &[u8], plain: &Plain) -> Result<PrintedMesh, AllocError>
-    requires { AreLines source.now plain.now.lines.items plain.now.item }
-    ensures { IfOk result (λ mesh. IsPrintOf (wall_body source.now plain.now.lines.items plain.now.item) 1000 (element_of mesh)) }
+/// Want of memory. Its text takes none, so that it hides no fault.
+fn no_memory() -> Answer
+    ensures { Tells result NoMemory }
 {
-    let solid = solid_of_lines(alloc, source, &plain.lines, plain.item)?;
-    make_mesh(alloc, &solid)
-}
-
-/// Builds the page of an input.
-fn convert(alloc: Global, source: &[u8], page: &mut Vec<u8>) -> Outcome
-    requires small { length source.now ≤ most_bytes }
-    requires empty { page.old.items ≡ [] }
-    ensures found { IsFoundIn source.now page.new.items result }
-    ensures calm { result ≢ Outcome.ReadFault }
-    ensures blank { (IsPage result ⊎ (result ≡ Outcome.NoMemory)) ⊎ (page.new.items ≡ []) }
-{
-    let plain = match plain_file(alloc, source) {
-        Ok(plain) => plain,
-        Err(PlainFault::NotBuilt { at }) => return Outcome::NotBuilt { at },
-        Err(PlainFault::NoMemory) => return Outcome::NoMemory,
-    };
-    let Ok(mesh) = wall_mesh(alloc, source, &plain) else {
-        return Outcome::NoMemory;
-    };
-    let (corners, faces) = counts(&mesh);
-    match put_page(page, &mesh) {
-        Ok(()) => Outcome::Page { corners, faces },
-        Err(AllocError) => Outcome::NoMemory,
+    Answer {
+        status: Status::NoMemory,
+        report: Report::Fixed(b"want of memory\n"),
     }
 }
 
-/// Reads the source and builds the page of what it gives.
-fn convert_source<S: Source>(alloc: Global, src: &mut S, page: &mut Vec<u8>) -> Outcome
+fn page_status(refused: u128) -> Status
+    ensures { result ≡ page_status refused }
+{
+    if refused == 0 {
+        Status::Done
+    } else {
+        Status::SomeRefused
+    }
+}
+
+/// The answer on a page.
+fn page_answer(alloc: Global, tally: &Tally) -> Answer
+    ensures { (items : List Item) → IsTallyOf tally.now items → TellsOrWants result (Page items) }
+{
+    match page_report(alloc, tally) {
+        Ok(text) => Answer {
+            status: page_status(tally.refused),
+            report: Report::Built(text),
+        },
+        Err(AllocError) => no_memory(),
+    }
+}
+
+/// The answer on a refused file.
+fn fault_answer(alloc: Global, fault: FileFault) -> Answer
+    ensures { TellsOrWants result (Refused fault) }
+{
+    match fault_report(alloc, fault) {
+        Ok(text) => Answer {
+            status: Status::FileRefused,
+            report: Report::Built(text),
+        },
+        Err(AllocError) => no_memory(),
+    }
+}
+
+/// Builds the page of the bytes of a file.
+fn convert_file(
+    alloc: Global,
+    source: &[u8],
+    page: &mut Vec<u8>,
+) -> Result<Tally, ConvertFault>
+    requires small { length source.now ≤ most_bytes }
+    requires empty { page.old.items ≡ [] }
+    ensures page { IfOk result (λ tally. (items : List Item) × IsPageOf source.now page.new.items items × IsTallyOf tally items) }
+    ensures refused { IfErr result (HasReason source.now) }
+    ensures blank { IfErr result (LeavesBlank page.new.items) }
+{
+    let table = open_file(alloc, source)?;
+    match write_page(alloc, &table, page) {
+        Ok(tally) => Ok(tally),
+        Err(AllocError) => Err(ConvertFault::NoMemory),
+    }
+}
+
+/// Builds the page of the bytes of a source that was read to its end, and answers what is found.
+fn convert(alloc: Global, source: &[u8], page: &mut Vec<u8>) -> Answer
+    requires small { length source.now ≤ most_bytes }
+    requires empty { page.old.items ≡ [] }
+    ensures { (found : Finding) × Tells result found × IsFoundAt source.now page.new.items found }
+{
+    match convert_file(alloc, source, page) {
+        Ok(tally) => page_answer(alloc, &tally),
+        Err(ConvertFault::Refused(fault)) => fault_answer(alloc, fault),
+        Err(ConvertFault::NoMemory) => no_memory(),
+    }
+}
+
+/// The answer on a source that was not read to its end. These texts take no memory, so that want of
+/// it hides no fault.
+fn unread_answer(fault: TakeFault) -> Answer
+    ensures { Tells result (unread_finding fault) }
+{
+    match fault {
+        TakeFault::Fault => Answer {
+            status: Status::ReadFault,
+            report: Report::Fixed(b"read fault\n"),
+        },
+        TakeFault::TooLarge => Answer {
+            status: Status::FileRefused,
+            report: Report::Fixed(b"refused FileTooLarge\n"),
+        },
+        TakeFault::NoMemory => no_memory(),
+    }
+}
+
+/// Reads the source, and builds the page of what it gives.
+fn convert_source<S: Source>(alloc: Global, src: &mut S, page: &mut Vec<u8>) -> Answer
     requires { page.old.items ≡ [] }
-    ensures found { IfSome (S.left src.old) (λ given. IsFoundIn given page.new.items result) }
-    ensures no_usage { result ≢ Outcome.Usage }
-    ensures cause { result ≡ Outcome.ReadFault → Rose (S.faults src.old) (S.faults src.new) }
-    ensures calm { result ≢ Outcome.ReadFault → S.faults src.new ≡ S.faults src.old }
-    ensures later { S.faults src.old ≤ S.faults src.new }
-    ensures blank { (IsPage result ⊎ (result ≡ Outcome.NoMemory)) ⊎ (page.new.items ≡ []) }
+    ensures { (found : Finding) × Tells result found × IsFoundIn
+        (known (S.left src.old) (S.faults src.old)) (known (S.left src.new) (S.faults src.new))
+        page.new.items found }
 {
     match read_whole(alloc, src, MOST_BYTES) {
         Ok(source) => convert(alloc, &source, page),
-        Err(TakeFault::Fault) => Outcome::ReadFault,
-        Err(TakeFault::TooLarge) => Outcome::TooLarge,
-        Err(TakeFault::NoMemory) => Outcome::NoMemory,
+        Err(fault) => unread_answer(fault),
+    }
+}
+
+/// Words that stand for no job.
+fn usage_answer() -> Answer
+    ensures { Tells result Finding.Usage }
+{
+    Answer {
+        status: Status::Usage,
+        report: Report::Fixed(
+            b"usage: ifcexact convert [--grid=N] [--only=N] [--format=NAME] / check / gen --count=N\n",
+        ),
     }
 }
 
 /// Runs the job that the words name up to the writing: what is found, and the page.
-pub fn answer<S: Source>(
+pub fn answer_words<S: Source>(
     alloc: Global,
     words: &[String],
     src: &mut S,
     page: &mut Vec<u8>,
-) -> Outcome
+) -> Answer
     requires { page.old.items ≡ [] }
-    ensures found { IfSome (S.left src.old) (λ given. IsFound (map string_bytes words.now) given page.new.items result) }
-    ensures usage { names_convert (map string_bytes words.now) ≡ false → result ≡ Outcome.Usage }
-    ensures usage_only { result ≡ Outcome.Usage → names_convert (map string_bytes words.now) ≡ false }
+    ensures found { (found : Finding) × Tells result found × IsFound (map string_bytes words.now)
+        (known (S.left src.old) (S.faults src.old)) (known (S.left src.new) (S.faults src.new))
+        page.new.items found }
     ensures untouched { names_convert (map string_bytes words.now) ≡ false → src.new ≡ src.old }
-    ensures cause { result ≡ Outcome.ReadFault → Rose (S.faults src.old) (S.faults src.new) }
-    ensures calm { result ≢ Outcome.ReadFault → S.faults src.new ≡ S.faults src.old }
-    ensures later { S.faults src.old ≤ S.faults src.new }
-    ensures blank { (IsPage result ⊎ (result ≡ Outcome.NoMemory)) ⊎ (page.new.items ≡ []) }
 {
     match Job::of_words(words) {
-        None => Outcome::Usage,
+        None => usage_answer(),
         Some(Job::Convert) => convert_source(alloc, src, page),
     }
 }

@@ -2,8 +2,9 @@
 #![tactic(auto)]
 
 mod answer;
+mod deliver;
 mod job;
-mod page;
+mod open;
 mod report;
 mod run;
 mod status;

@@ -1,67 +1,82 @@
-ghost use Rattle.std.specs.Prelude.{◌≡◌, ◌++◌, IfOk, OnOk, MatchOption};
+ghost use Rattle.std.specs.Prelude.{◌≡◌, ◌++◌, ◌∷◌, [], IfOk, OnOk, codes};
 ghost use Rattle.std.specs.Fmt.{decimal};
-ghost use Rattle.spec_run.specs.Reports.{report_of};
-ghost use Rattle.spec_run.specs.Runs.{IsNumbered};
+ghost use Rattle.spec_run.specs.Findings.{Refused};
+ghost use Rattle.spec_run.specs.Reports.{fault_text, report_of};
+ghost use Rattle.ix_convert.specs.Answers.{text_of};
 
-use spec_run::Outcome;
+use spec_run::FileFault;
 use std::alloc::{AllocError, Global};
 
-fn put_number(text: &mut Vec<u8>, number: usize) -> Result<(), AllocError>
+/// The text of a report.
+#[derive(Drop)]
+pub enum Report {
+    /// A text that takes no memory.
+    Fixed(&'static [u8]),
+    /// A text with numbers in it.
+    Built(Vec<u8>),
+}
+
+impl Report {
+    /// Its bytes.
+    pub fn text(&self) -> &[u8]
+        ensures { result.now ≡ text_of self.now }
+    {
+        match self {
+            Report::Fixed(text) => text,
+            Report::Built(text) => text,
+        }
+    }
+}
+
+fn put_number(text: &mut Vec<u8>, number: u64) -> Result<(), AllocError>
     ensures { OnOk result (text.new.items ≡ text.old.items ++ decimal number) }
 {
     let mut buffer = itoa::Buffer::new();
     text.extend_from_slice(buffer.format(number).as_bytes())
 }
 
-/// The report on a page.
-fn converted(alloc: Global, corners: usize, faces: usize) -> Result<Vec<u8>, AllocError>
-    ensures { IfOk result (λ text. text.items ≡ report_of (Outcome.Page corners faces)) }
+/// Appends a word, and a number behind it.
+fn put_worded(text: &mut Vec<u8>, word: &[u8], number: u64) -> Result<(), AllocError>
+    ensures { OnOk result (text.new.items ≡ text.old.items ++ (word.now ++ decimal number)) }
 {
-    let mut text = Vec::from_slice(
-        alloc,
-        b"elements 1 converted 1 skipped 0 refused 0 corners ",
-    )?;
-    put_number(&mut text, corners)?;
-    text.extend_from_slice(b" faces ")?;
-    put_number(&mut text, faces)?;
-    text.push(b'\n')?;
-    Ok(text)
+    text.extend_from_slice(word)?;
+    put_number(text, number)
 }
 
-/// The report on an input of another form than is built.
-fn not_built(alloc: Global, at: usize) -> Result<Vec<u8>, AllocError>
-    ensures { IfOk result (λ text. text.items ≡ report_of (Outcome.NotBuilt at)) }
+/// Appends the fault of a number that is given twice.
+fn put_duplicate(text: &mut Vec<u8>, number: u64, first: usize, second: usize) -> Result<(), AllocError>
+    ensures { OnOk result (text.new.items ≡ text.old.items ++ fault_text (FileFault.DuplicateNumber number first second)) }
 {
-    let mut text = Vec::from_slice(alloc, b"refused NotBuilt at ")?;
-    put_number(&mut text, at)?;
-    text.push(b'\n')?;
-    Ok(text)
+    put_worded(text, b"DuplicateNumber ", number)?;
+    put_worded(text, b" at ", first as u64)?;
+    put_worded(text, b" and ", second as u64)
 }
 
-/// The text that is reported on what was found, where there is no number in it.
-pub fn fixed_report(outcome: Outcome) -> Option<&'static [u8]>
-    ensures { MatchOption result (IsNumbered outcome) (λ text. text.now ≡ report_of outcome) }
+/// Appends why a file is refused.
+fn put_fault(text: &mut Vec<u8>, fault: FileFault) -> Result<(), AllocError>
+    ensures { OnOk result (text.new.items ≡ text.old.items ++ fault_text fault) }
 {
-    match outcome {
-        Outcome::Page { .. } => None,
-        Outcome::NotBuilt { .. } => None,
-        Outcome::TooLarge => Some(b"refused FileTooLarge\n"),
-        Outcome::ReadFault => Some(b"read fault\n"),
-        Outcome::NoMemory => Some(b"want of memory\n"),
-        Outcome::Usage => Some(
-            b"usage: ifcexact convert [--grid=N] [--only=N] [--format=NAME] / check / gen --count=N\n",
-        ),
+    match fault {
+        FileFault::TooLarge => text.extend_from_slice(b"FileTooLarge"),
+        FileFault::Syntax { at } => put_worded(text, b"Syntax at ", at as u64),
+        FileFault::Nested { at } => put_worded(text, b"Nested at ", at as u64),
+        FileFault::Schema => text.extend_from_slice(b"Schema"),
+        FileFault::DuplicateNumber {
+            number,
+            first,
+            second,
+        } => put_duplicate(text, number, first, second),
+        FileFault::NoProject => text.extend_from_slice(b"NoProject"),
+        FileFault::NoLengthUnit => text.extend_from_slice(b"NoLengthUnit"),
     }
 }
 
-/// The text that is reported on what was found, where there is a number in it.
-pub fn report(alloc: Global, outcome: Outcome) -> Result<Vec<u8>, AllocError>
-    requires { IsNumbered outcome }
-    ensures { IfOk result (λ text. text.items ≡ report_of outcome) }
+/// The report on a refused file. The error is want of memory.
+pub fn fault_report(alloc: Global, fault: FileFault) -> Result<Vec<u8>, AllocError>
+    ensures { IfOk result (λ text. text.items ≡ report_of (Refused fault)) }
 {
-    match outcome {
-        Outcome::Page { corners, faces } => converted(alloc, corners, faces),
-        Outcome::NotBuilt { at } => not_built(alloc, at),
-        _ => unreachable!(),
-    }
+    let mut text = Vec::from_slice(alloc, b"refused ")?;
+    put_fault(&mut text, fault)?;
+    text.push(b'\n')?;
+    Ok(text)
 }

@@ -5,35 +5,24 @@ use ix_outside::{Failed, MemSink, MemSource, Source, read_whole};
 use std::alloc::{AllocError, Global};
 use std::test::Fail;
 
-const WALL: &[u8] =
-    b"ISO-10303-21;HEADER;FILE_DESCRIPTION((''),'2;1');FILE_NAME('','',(''),(''),'','','');FILE_SCHEMA(('IFC4'));ENDSEC;DATA;
+const HEAD: &[u8] = b"ISO-10303-21;HEADER;FILE_SCHEMA(('IFC4'));ENDSEC;DATA;
 #1=IFCSIUNIT(*,.LENGTHUNIT.,.MILLI.,.METRE.);#2=IFCUNITASSIGNMENT((#1));#3=IFCCARTESIANPOINT((0.,0.,0.));
-#4=IFCAXIS2PLACEMENT3D(#3,$,$);#5=IFCGEOMETRICREPRESENTATIONCONTEXT($,'Model',3,1.E-5,#4,$);
-#6=IFCPROJECT('1',$,'p',$,$,$,$,(#5),#2);#7=IFCLOCALPLACEMENT($,#4);#8=IFCDIRECTION((0.,0.,1.));
-#9=IFCRECTANGLEPROFILEDEF(.AREA.,$,$,";
+#4=IFCAXIS2PLACEMENT3D(#3,$,$);#7=IFCLOCALPLACEMENT($,#4);#8=IFCDIRECTION((0.,0.,1.));
+#9=IFCRECTANGLEPROFILEDEF(.AREA.,$,$,1000.,1000.);#10=IFCEXTRUDEDAREASOLID(#9,$,#8,1000.);";
 
-const BEHIND: &[u8] = b",1000.);
-#10=IFCEXTRUDEDAREASOLID(#9,$,#8,1000.);#11=IFCSHAPEREPRESENTATION(#5,'Body','SweptSolid',(#10));
-#12=IFCPRODUCTDEFINITIONSHAPE($,$,(#11));#13=IFCWALL('2',$,'w',$,$,#7,#12,$,$);ENDSEC;END-ISO-10303-21;";
+const PROJECT: &[u8] = b"#6=IFCPROJECT('1',$,'p',$,$,$,$,$,#2);";
 
-const BEFORE_LINES: usize = WALL.len() - b"#9=IFCRECTANGLEPROFILEDEF(.AREA.,$,$,".len();
+const WALL: &[u8] = b"#11=IFCSHAPEREPRESENTATION($,'Body',$,(#10));#12=IFCPRODUCTDEFINITIONSHAPE($,$,(#11));
+#13=IFCWALL('2',$,'w',$,$,#7,#12,$,$);";
 
-const SHAPE: &[u8] = b"#11=IFCSHAPEREPRESENTATION(#5,'Body','SweptSolid',(#30));
-#12=IFCPRODUCTDEFINITIONSHAPE($,$,(#11));#13=IFCWALL('2',$,'w',$,$,#7,#12,$,$);ENDSEC;END-ISO-10303-21;";
+const END: &[u8] = b"ENDSEC;END-ISO-10303-21;";
 
-/// A file of one wall that is the solid of #30 of these lines.
-fn combined(alloc: Global, lines: &[u8]) -> Result<Vec<u8>, AllocError> {
-    let mut file = Vec::from_slice(alloc, &WALL[..BEFORE_LINES])?;
-    file.extend_from_slice(lines)?;
-    file.extend_from_slice(SHAPE)?;
-    Ok(file)
-}
-
-/// A file of one wall with this width.
-fn wall(alloc: Global, width: &[u8]) -> Result<Vec<u8>, AllocError> {
-    let mut file = Vec::from_slice(alloc, WALL)?;
-    file.extend_from_slice(width)?;
-    file.extend_from_slice(BEHIND)?;
+/// A file of these parts.
+fn file(alloc: Global, parts: &[&[u8]]) -> Result<Vec<u8>, AllocError> {
+    let mut file = Vec::new(alloc);
+    for part in parts {
+        file.extend_from_slice(part)?;
+    }
     Ok(file)
 }
 
@@ -75,9 +64,27 @@ fn run<S: Source>(
     })
 }
 
-/// Runs `convert` over a file, with room for all texts.
-fn convert(alloc: Global, file: Vec<u8>) -> Result<Left, AllocError> {
-    run(alloc, &["convert"], &mut MemSource::new(file), 4000, 200)
+/// Runs `convert` over a file of these parts, with room for all texts.
+fn convert(alloc: Global, parts: &[&[u8]]) -> Result<Left, AllocError> {
+    run(
+        alloc,
+        &["convert"],
+        &mut MemSource::new(file(alloc, parts)?),
+        40_000,
+        400,
+    )
+}
+
+fn has(page: &[u8], text: &[u8]) -> bool {
+    page.windows(text.len()).any(|part| part == text)
+}
+
+/// Whether a run is refused before anything is written, with this report.
+fn is_refused(left: &Left, report: &[u8]) -> bool {
+    left.status == Status::FileRefused
+        && left.rep.held() == report
+        && left.page.is_empty()
+        && left.out.held().is_empty()
 }
 
 /// A source that fails at once.
@@ -98,110 +105,51 @@ impl Source for Broken {
 }
 
 #[test]
-fn converts_a_wall(rt: HostRuntime) -> Result<(), Fail> {
-    let left = convert(rt.alloc(), wall(rt.alloc(), b"1000.")?)?;
-    assert_eq!(rt; left.status, Status::Done);
+fn names_each_element(rt: HostRuntime) -> Result<(), Fail> {
+    let more: &[u8] = b"#14=IFCSLAB('3',$,$,$,$,#7,$,$,$);#15=IFCBEAM('4',$,$,$,$,#7,#99,$,$);
+#16=IFCWALL('5',$,$,$,$,#7,#12,$,$);#17=IFCSPACE('6',$,$,$,$,#7,#12,$,$);";
+    let left = convert(rt.alloc(), &[HEAD, PROJECT, WALL, more, END])?;
+    assert_eq!(rt; left.status, Status::SomeRefused);
     assert!(rt; left.out.held() == left.page.as_slice());
-    assert!(rt;
-        left.page
-            .as_slice()
-            .ends_with(b"\n#vol6 6000000000000000000\n# end\n")
-    );
-    assert!(rt;
-        left.rep.held()
-            == b"elements 1 converted 1 skipped 0 refused 0 corners 8 faces 8\n".as_slice()
-    );
-    Ok(())
-}
-
-#[test]
-fn rounds_extents_to_the_grid(rt: HostRuntime) -> Result<(), Fail> {
-    let flat = convert(rt.alloc(), wall(rt.alloc(), b"0.4")?)?;
-    assert_eq!(rt; flat.status, Status::Done);
-    assert!(rt;
-        flat.page.as_slice()
-            == b"# ifcexact 1\n# grid 1000\no 13\n#frame 1000000000 0 0 0 1000000000 0 0 0 1000000000 0 0 0\n#vol6 0\n# end\n".as_slice()
-    );
-    assert!(rt;
-        flat.rep.held()
-            == b"elements 1 converted 1 skipped 0 refused 0 corners 0 faces 0\n".as_slice()
-    );
-
-    let thin = convert(rt.alloc(), wall(rt.alloc(), b"1.")?)?;
-    for lines in [
-        b"#c 0 -500 0 1\nv 0.000000 -0.500000 0.000000\n".as_slice(),
-        b"#c 1 -500 0 1\nv 0.001000 -0.500000 0.000000\n".as_slice(),
+    assert!(rt; left.rep.held() == b"elements 4 converted 2 skipped 1 refused 1 corners 16 faces 16
+#refused 15 E4 Dangling #15 99\n".as_slice());
+    for text in [
+        b"# ifcexact 1\n# grid 1000\no 13\n#frame 1000000000 0 0".as_slice(),
+        b"\n#vol6 6000000000000000000\n#skipped 14\n#refused 15 E4 Dangling #15 99\no 16\n".as_slice(),
+        b"\n#vol6 6000000000000000000\n# end\n".as_slice(),
+        // The second wall's corners have the numbers 9 to 16.
+        b"\nf 9 ".as_slice(),
+        b" 16".as_slice(),
     ] {
-        assert!(rt;
-            thin.page
-                .as_slice()
-                .windows(lines.len())
-                .any(|text| text == lines)
-        );
-    }
-    assert!(rt;
-        thin.page
-            .as_slice()
-            .ends_with(b"\n#vol6 6000000000000000\n# end\n")
-    );
-    Ok(())
-}
-
-#[test]
-fn converts_combined_solids(rt: HostRuntime) -> Result<(), Fail> {
-    let cases = [
-        (
-            b"#20=IFCBLOCK(#4,1000.,1000.,1000.);#30=IFCBOOLEANRESULT(.DIFFERENCE.,#20,#20);".as_slice(),
-            b"\n#vol6 0\n# end\n".as_slice(),
-        ),
-        (
-            b"#20=IFCCARTESIANPOINT((1000.,0.,0.));#21=IFCAXIS2PLACEMENT3D(#20,$,$);#22=IFCBLOCK(#4,1000.,1000.,1000.);#23=IFCBLOCK(#21,1000.,1000.,1000.);#30=IFCBOOLEANRESULT(.UNION.,#22,#23);".as_slice(),
-            b"\n#vol6 12000000000000000000\n# end\n".as_slice(),
-        ),
-        (
-            b"#20=IFCCARTESIANPOINT((250.,250.,-50.));#21=IFCAXIS2PLACEMENT3D(#20,$,$);#22=IFCBLOCK(#4,1000.,1000.,1000.);#23=IFCBLOCK(#21,500.,500.,1100.);#30=IFCBOOLEANRESULT(.DIFFERENCE.,#22,#23);".as_slice(),
-            b"\n#vol6 4500000000000000000\n# end\n".as_slice(),
-        ),
-        (
-            b"#30=IFCBLOCK(#4,0.4,1000.,1000.);".as_slice(),
-            b"\n#vol6 0\n# end\n".as_slice(),
-        ),
-    ];
-    for (lines, end) in cases {
-        let file = combined(rt.alloc(), lines)?;
-        let left = run(
-            rt.alloc(),
-            &["convert"],
-            &mut MemSource::new(file),
-            40_000,
-            200,
-        )?;
-        assert_eq!(rt; left.status, Status::Done);
-        assert!(rt; left.page.as_slice().ends_with(end));
+        assert!(rt; has(&left.page, text));
     }
     Ok(())
 }
 
 #[test]
-fn refuses_at_the_place(rt: HostRuntime) -> Result<(), Fail> {
-    let keyword = WALL.len() - b"IFCRECTANGLEPROFILEDEF(.AREA.,$,$,".len();
-    let mut circle = Vec::from_slice(rt.alloc(), &WALL[..keyword])?;
-    circle.extend_from_slice(b"IFCCIRCLEPROFILEDEF(.AREA.,$,$,500.);")?;
-    let cases = [
-        (circle, keyword),
-        (wall(rt.alloc(), b"0.")?, WALL.len()),
-        (wall(rt.alloc(), b"-1.")?, WALL.len()),
-        (wall(rt.alloc(), b"1000000.000000000001")?, WALL.len()),
-    ];
-    for (file, place) in cases {
-        let left = convert(rt.alloc(), file)?;
-        assert_eq!(rt; left.status, Status::FileRefused);
-        let text = format!(in rt.alloc(); "refused NotBuilt at {place}\n")?;
-        assert!(rt; left.rep.held() == text.as_bytes());
-        assert!(rt; left.page.is_empty() && left.out.held().is_empty());
-    }
-    let widest = convert(rt.alloc(), wall(rt.alloc(), b"1000000.")?)?;
-    assert_eq!(rt; widest.status, Status::Done);
+fn refuses_files_in_order(rt: HostRuntime) -> Result<(), Fail> {
+    let twice: &[u8] = b"#9=IFCWALL('2',$,'w',$,$,#7,$,$,$);";
+    let cut = convert(rt.alloc(), &[HEAD, b"#13=IFCW"])?;
+    let at = HEAD.len() + 8;
+    assert!(rt; is_refused(&cut, format!(in rt.alloc(); "refused Syntax at {at}\n")?.as_bytes()));
+    // The number stands twice, and no project stands: the first is named.
+    let repeated = convert(rt.alloc(), &[HEAD, twice, END])?;
+    let second = HEAD.len();
+    let first = HEAD.len() - 90;
+    let report = format!(in rt.alloc(); "refused DuplicateNumber 9 at {first} and {second}\n")?;
+    assert!(rt; is_refused(&repeated, report.as_bytes()));
+    let homeless = convert(rt.alloc(), &[HEAD, WALL, END])?;
+    assert!(rt; is_refused(&homeless, b"refused NoProject\n"));
+    let unmeasured = convert(
+        rt.alloc(),
+        &[HEAD, b"#5=IFCUNITASSIGNMENT(());#6=IFCPROJECT('1',$,'p',$,$,$,$,$,#5);", END],
+    )?;
+    assert!(rt; is_refused(&unmeasured, b"refused NoLengthUnit\n"));
+    let foreign = convert(
+        rt.alloc(),
+        &[b"ISO-10303-21;HEADER;FILE_SCHEMA(('IFC4X3'));ENDSEC;DATA;ENDSEC;END-ISO-10303-21;"],
+    )?;
+    assert!(rt; is_refused(&foreign, b"refused Schema\n"));
     Ok(())
 }
 
@@ -209,7 +157,8 @@ fn refuses_at_the_place(rt: HostRuntime) -> Result<(), Fail> {
 fn reads_nothing_for_faulty_words(rt: HostRuntime) -> Result<(), Fail> {
     assert!(rt; Job::of_words(&words(rt.alloc(), &["convert"])?) == Some(Job::Convert));
     assert!(rt; Job::of_words(&words(rt.alloc(), &["convert", "convert"])?).is_none());
-    let mut source = MemSource::new(wall(rt.alloc(), b"1000.")?);
+    let parts: [&[u8]; 4] = [HEAD, PROJECT, WALL, END];
+    let mut source = MemSource::new(file(rt.alloc(), &parts)?);
     let left = run(rt.alloc(), &[], &mut source, 4000, 200)?;
     assert_eq!(rt; left.status.code(), 6);
     assert!(rt;
@@ -217,32 +166,26 @@ fn reads_nothing_for_faulty_words(rt: HostRuntime) -> Result<(), Fail> {
             == b"usage: ifcexact convert [--grid=N] [--only=N] [--format=NAME] / check / gen --count=N\n".as_slice()
     );
     let all = read_whole(rt.alloc(), &mut source, 4000)?;
-    assert!(rt; all.as_slice() == wall(rt.alloc(), b"1000.")?.as_slice());
+    assert!(rt; all.as_slice() == file(rt.alloc(), &parts)?.as_slice());
     Ok(())
 }
 
 #[test]
 fn answers_faults_of_the_outside(rt: HostRuntime) -> Result<(), Fail> {
-    let file = wall(rt.alloc(), b"1000.")?;
-    let mut source = MemSource::new(file.clone()?);
+    let wall = file(rt.alloc(), &[HEAD, PROJECT, WALL, END])?;
+    let mut source = MemSource::new(wall.clone()?);
     let left = run(rt.alloc(), &["convert"], &mut source, 64, 200)?;
     assert_eq!(rt; left.status.code(), 4);
     assert!(rt; left.page.as_slice().starts_with(left.out.held()));
     assert_eq!(rt; left.out.held().len(), 64);
     assert!(rt; left.rep.held().is_empty());
 
-    let left = run(rt.alloc(), &["convert"], &mut MemSource::new(file), 4000, 9)?;
+    let left = run(rt.alloc(), &["convert"], &mut MemSource::new(wall), 4000, 9)?;
     assert_eq!(rt; left.status.code(), 4);
     assert!(rt; left.out.held() == left.page.as_slice());
     assert!(rt; left.rep.held() == b"elements ".as_slice());
 
-    let left = run(
-        rt.alloc(),
-        &["convert"],
-        &mut Broken { faults: 0 },
-        4000,
-        200,
-    )?;
+    let left = run(rt.alloc(), &["convert"], &mut Broken { faults: 0 }, 4000, 200)?;
     assert_eq!(rt; left.status.code(), 3);
     assert!(rt; left.rep.held() == b"read fault\n".as_slice());
     Ok(())

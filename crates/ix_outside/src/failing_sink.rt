@@ -5,7 +5,7 @@ ghost use Rattle.std.specs.Io.KnownBytes.{WriteAppends};
 ghost use Rattle.spec_outside.specs.Causes.{HasCause};
 ghost use Rattle.spec_outside.specs.Ends.{FailingSink, next_count};
 
-use crate::fault::Failed;
+use crate::fault::{Failed, NoMemory, counted_fault};
 use crate::sink::Sink;
 use std::alloc::{AllocError, Global};
 use std::marker::Model;
@@ -50,7 +50,7 @@ impl FailSink {
         room: usize,
         most: usize,
         fail_at: Vec<u64>,
-    ) -> Result<FailSink, AllocError>
+    ) -> Result<FailSink, NoMemory>
         requires { 0 < most }
         ensures { IfOk result (λ s. s ≡ record { held = []; room = room; most = most; fail_at = fail_at.items; calls = 0; faults = 0 }) }
     {
@@ -94,13 +94,11 @@ impl Sink for FailSink {
     {
         self.calls = self.calls.saturating_add(1);
         if self.fail_at.contains(&self.calls) {
-            self.faults = self.faults.saturating_add(1);
-            return Err(Failed);
+            return Err(counted_fault(&mut self.faults));
         }
         let count = piece.len().min(self.most).min(self.room - self.bytes.len());
         if count == 0 && !piece.is_empty() {
-            self.faults = self.faults.saturating_add(1);
-            return Err(Failed);
+            return Err(counted_fault(&mut self.faults));
         }
         match self.bytes.extend_from_slice(&piece[..count]) {
             Ok(()) => Ok(count),

@@ -5,8 +5,8 @@ ghost use Rattle.std.specs.Io.KnownBytes.{ReadConsumes};
 ghost use Rattle.spec_outside.specs.Causes.{HasCause};
 ghost use Rattle.spec_outside.specs.Ends.{FailingSource, next_count};
 
-use crate::fault::Failed;
-use crate::memory_source::give;
+use crate::fault::{Failed, counted_fault};
+use crate::memory_source::fill_front;
 use crate::source::Source;
 use std::marker::Model;
 
@@ -74,10 +74,9 @@ impl Source for FailSource {
     {
         self.calls = self.calls.saturating_add(1);
         if self.fail_at.contains(&self.calls) {
-            self.faults = self.faults.saturating_add(1);
-            return Err(Failed);
+            return Err(counted_fault(&mut self.faults));
         }
-        let count = give(&self.bytes, self.at, self.most, buf);
+        let count = fill_front(&self.bytes, self.at, self.most, buf);
         self.at += count;
         Ok(count)
     }

@@ -17,7 +17,7 @@ mod whole;
 pub use count_sink::CountSink;
 pub use failing_sink::FailSink;
 pub use failing_source::FailSource;
-pub use fault::{Failed, TakeFault, WriteFault};
+pub use fault::{Failed, NoMemory, TakeFault, WriteFault};
 pub use memory_sink::MemSink;
 pub use memory_source::MemSource;
 pub use sink::Sink;

@@ -5,7 +5,7 @@ ghost use Rattle.std.specs.Io.KnownBytes.{WriteAppends};
 ghost use Rattle.spec_outside.specs.Causes.{HasCause};
 ghost use Rattle.spec_outside.specs.Ends.{MemorySink, next_count};
 
-use crate::fault::Failed;
+use crate::fault::{Failed, NoMemory, counted_fault};
 use crate::sink::Sink;
 use std::alloc::{AllocError, Global};
 use std::marker::Model;
@@ -33,7 +33,7 @@ impl MemSink {
     /// # Errors
     ///
     /// Want of memory.
-    pub fn new(alloc: Global, room: usize) -> Result<MemSink, AllocError>
+    pub fn new(alloc: Global, room: usize) -> Result<MemSink, NoMemory>
         ensures { IfOk result (λ s. s ≡ record { held = []; room = room; faults = 0 }) }
     {
         let bytes = Vec::with_capacity(alloc, room)?;
@@ -71,8 +71,7 @@ impl Sink for MemSink {
     {
         let count = piece.len().min(self.room - self.bytes.len());
         if count == 0 && !piece.is_empty() {
-            self.faults = self.faults.saturating_add(1);
-            return Err(Failed);
+            return Err(counted_fault(&mut self.faults));
         }
         match self.bytes.extend_from_slice(&piece[..count]) {
             Ok(()) => Ok(count),

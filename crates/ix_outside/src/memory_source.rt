@@ -10,7 +10,7 @@ use std::marker::Model;
 
 /// Fills a front part of the buffer from a place in the bytes, with as many as there are, and at
 /// most `most`.
-pub(crate) fn give(bytes: &[u8], at: usize, most: usize, buf: &mut [u8]) -> usize
+pub(crate) fn fill_front(bytes: &[u8], at: usize, most: usize, buf: &mut [u8]) -> usize
     requires { at ≤ length bytes.now }
     ensures count { result ≡ min (min (length buf.old) most) (length bytes.now - at) }
     ensures filled { take result buf.new ≡ take result (drop at bytes.now) }
@@ -58,7 +58,7 @@ impl Source for MemSource {
         // As many as the buffer takes and the source has.
         ensures gives { IfOk result (λ n. n ≡ min (length buf.old) (length self.old)) }
     {
-        let count = give(&self.bytes, self.at, usize::MAX, buf);
+        let count = fill_front(&self.bytes, self.at, usize::MAX, buf);
         self.at += count;
         Ok(count)
     }

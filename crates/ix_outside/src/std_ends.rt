@@ -1,15 +1,44 @@
-ghost use Rattle.std.specs.Prelude.{◌≡◌};
-ghost use Rattle.spec_outside.specs.Ends.{Counted};
+ghost use Rattle.std.specs.Prelude.{◌≡◌, ℕ, ◌-◌, ◌^◌, ◌<◌, ◌≤◌, [], Ok, IfOk, OnErr, IsErr};
+ghost use Rattle.std.specs.Io.{ReadsAtMost, WritesAtMost};
+ghost use Rattle.std.specs.Io.KnownBytes.{ReadConsumes, WriteAppends};
+ghost use Rattle.spec_outside.specs.Causes.{HasCause};
+ghost use Rattle.spec_outside.specs.Ends.{Counted, next_count};
 
-use crate::fault::Failed;
+use crate::fault::{Failed, counted_fault};
 use crate::sink::Sink;
 use crate::source::Source;
+use std::io;
 use std::io::{Read, Write};
 use std::marker::Model;
 
-/// A reader of std as a source. Its count rises at each error of the reader, and stays at 2^64 - 1
-/// once it has it. A read of zero bytes is handed on as the end of input. What bytes the outside
-/// gives is not claimed.
+/// A source's answer to what its reader answered: a number of bytes is handed on, zero too, and an
+/// error is a fault that is counted once.
+fn source_answer(answer: io::Result<usize>, faults: &mut u64) -> Result<usize, Failed>
+    ensures ok { IfOk answer (λ n. (result ≡ Ok n) × (faults.new ≡ faults.old)) }
+    ensures err { OnErr answer (IsErr result × (faults.new ≡ next_count faults.old)) }
+{
+    match answer {
+        Ok(count) => Ok(count),
+        Err(_) => Err(counted_fault(faults)),
+    }
+}
+
+/// A sink's answer to what its writer answered to a piece that is not empty: a number of bytes
+/// above zero is handed on, and zero or an error is a fault that is counted once.
+fn sink_answer(answer: io::Result<usize>, faults: &mut u64) -> Result<usize, Failed>
+    ensures ok { IfOk answer (λ n. 0 < n → (result ≡ Ok n) × (faults.new ≡ faults.old)) }
+    ensures none { IfOk answer (λ n. n ≡ 0 → IsErr result × (faults.new ≡ next_count faults.old)) }
+    ensures err { OnErr answer (IsErr result × (faults.new ≡ next_count faults.old)) }
+{
+    match answer {
+        Ok(count) if count > 0 => Ok(count),
+        _ => Err(counted_fault(faults)),
+    }
+}
+
+/// A reader of std as a source. It tells the bytes that its reader tells. Its count rises by one at
+/// each error of the reader, and stays at 2^64 - 1 once it has it. A read of zero bytes is handed on
+/// as the end of input. What bytes the outside gives is not claimed.
 #[derive(Drop)]
 pub struct StdSource<R> {
     inner: R,
@@ -20,6 +49,8 @@ impl<R> Model for StdSource<R> {
     ghost Value = { Counted R };
 
     ghost view = { λ s. record { inner = s.inner; faults = s.faults } };
+
+    ghost invariant = { λ s. s.faults ≤ 2 ^ 64 - 1 };
 }
 
 impl<R: Read> StdSource<R> {
@@ -36,20 +67,19 @@ impl<R: Read> Source for StdSource<R> {
 
     ghost faults = { λ s. s.faults };
 
-    fn take(&mut self, buf: &mut [u8]) -> Result<usize, Failed> {
-        match self.inner.read(buf) {
-            Ok(count) => Ok(count),
-            Err(_) => {
-                self.faults = self.faults.saturating_add(1);
-                Err(Failed)
-            }
-        }
+    fn take(&mut self, buf: &mut [u8]) -> Result<usize, Failed>
+        ensures bound { ReadsAtMost result buf.new }
+        ensures bytes { ReadConsumes (R.remaining self.old.inner) (R.remaining self.new.inner) result buf.new }
+        ensures cause { HasCause self.old.faults self.new.faults result }
+        ensures rises { OnErr result (self.new.faults ≡ next_count self.old.faults) }
+    {
+        source_answer(self.inner.read(buf), &mut self.faults)
     }
 }
 
-/// A writer of std as a sink. Its count rises at each error of the writer and where the writer
-/// takes nothing of a piece that is not empty, and stays at 2^64 - 1 once it has it. What becomes
-/// of the bytes outside is not claimed.
+/// A writer of std as a sink. It tells the bytes that its writer tells. Its count rises by one at
+/// each error of the writer and where the writer takes nothing of a piece that is not empty, and
+/// stays at 2^64 - 1 once it has it. What becomes of the bytes outside is not claimed.
 #[derive(Drop)]
 pub struct StdSink<W> {
     inner: W,
@@ -60,6 +90,8 @@ impl<W> Model for StdSink<W> {
     ghost Value = { Counted W };
 
     ghost view = { λ s. record { inner = s.inner; faults = s.faults } };
+
+    ghost invariant = { λ s. s.faults ≤ 2 ^ 64 - 1 };
 }
 
 impl<W: Write> StdSink<W> {
@@ -76,16 +108,17 @@ impl<W: Write> Sink for StdSink<W> {
 
     ghost faults = { λ s. s.faults };
 
-    fn put(&mut self, piece: &[u8]) -> Result<usize, Failed> {
+    fn put(&mut self, piece: &[u8]) -> Result<usize, Failed>
+        ensures bound { WritesAtMost result piece.now }
+        ensures bytes { WriteAppends (W.contents self.old.inner) (W.contents self.new.inner) result piece.now }
+        ensures progress { IfOk result (λ n. n ≡ 0 → piece.now ≡ []) }
+        ensures cause { HasCause self.old.faults self.new.faults result }
+        ensures rises { OnErr result (self.new.faults ≡ next_count self.old.faults) }
+    {
+        let StdSink { inner, faults } = self;
         if piece.is_empty() {
             return Ok(0);
         }
-        match self.inner.write(piece) {
-            Ok(count) if count > 0 => Ok(count),
-            _ => {
-                self.faults = self.faults.saturating_add(1);
-                Err(Failed)
-            }
-        }
+        sink_answer(inner.write(piece), faults)
     }
 }

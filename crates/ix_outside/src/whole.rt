@@ -1,6 +1,6 @@
-ghost use Rattle.std.specs.Prelude.{◌≡◌, ◌≢◌, ℕ, ◌^◌, ◌<◌, ◌≤◌, length, vec_len, IfOk, IfSome, OnOk, OnErr, IsErrOf};
-ghost use Rattle.std.specs.Io.KnownBytes.{Appends, IsAtEnd};
-ghost use Rattle.spec_outside.specs.Causes.{Rose, AppendsFront};
+ghost use Rattle.std.specs.Prelude.{◌≡◌, ℕ, ◌^◌, ◌<◌, ◌≤◌, length, vec_len, IfOk, IfSome, OnOk, OnErr, IsErrOf};
+ghost use Rattle.std.specs.Io.KnownBytes.{Appends};
+ghost use Rattle.spec_outside.specs.Causes.{Rose, AppendsFront, TakesAtMost, IsEmptied};
 
 use crate::fault::{Failed, TakeFault, WriteFault};
 use crate::sink::Sink;
@@ -13,14 +13,17 @@ use std::alloc::Global;
 /// # Errors
 ///
 /// `Fault` only where the source's count of faults rose. `TooLarge` only where the source had more
-/// than `limit` bytes, if it tells them. `NoMemory`. The bytes taken so far are lost then.
+/// than `limit` bytes, if it tells them. `NoMemory`, before more than `limit` bytes were taken. The
+/// bytes taken so far are lost then.
 pub fn read_whole<S: Source>(alloc: Global, src: &mut S, limit: usize) -> Result<Vec<u8>, TakeFault>
     requires { limit ≤ 2 ^ 27 }
     // All bytes up to the end, within the limit.
     ensures all { IfOk result (λ bytes. IfSome (S.left src.old) (λ given. bytes.items ≡ given)) }
-    ensures end { OnOk result (IsAtEnd (S.left src.new)) }
+    ensures end { OnOk result (IsEmptied (S.left src.old) (S.left src.new)) }
     ensures within { IfOk result (λ bytes. vec_len bytes ≤ limit) }
+    // More than the limit is taken only of a source that had more, and then no other answer comes.
     ensures too_large { IsErrOf result TakeFault.TooLarge → IfSome (S.left src.old) (λ given. limit < length given) }
+    ensures taken { (IsErrOf result TakeFault.TooLarge → ⊥) → TakesAtMost (S.left src.old) (S.left src.new) limit }
     // The count of faults.
     ensures later { S.faults src.old ≤ S.faults src.new }
     ensures cause { IsErrOf result TakeFault.Fault → Rose (S.faults src.old) (S.faults src.new) }

@@ -1,5 +1,5 @@
 -- Reading in order: what is read, or the first refusal.
-use Rattle.std.specs.Prelude.{ℕ, ℤ, Bool, true, false, List, [], ◌∷◌, Option, Some, None, is_none, Result, Ok, Err}
+use Rattle.std.specs.Prelude.{ℕ, ℤ, Bool, true, false, List, [], ◌∷◌, map, Option, Some, None, is_none, Result, Ok, Err}
 use Rattle.std.specs.List.{list_any}
 use Rattle.spec_step.specs.Spans.{bytes_at}
 use Rattle.spec_step.specs.declared.tree.Param.{Param}
@@ -12,21 +12,9 @@ use Rattle.spec_table.specs.declared.fault.AttrFault.{AttrFault}
 use Rattle.spec_table.specs.declared.fault.AttrFault.TheVariants as fault
 use Rattle.ifc_kinds.specs.Keywords.{is_keyword}
 use Rattle.ifc_kinds.specs.declared.kind.Kind.{Kind}
+use Rattle.spec_refusal.specs.Reads.{Read, next, only_if}
 use Rattle.spec_refusal.specs.declared.Refusal.{Refusal}
 use Rattle.spec_refusal.specs.declared.Refusal.TheVariants.{Unsupported, BadAttribute, Dangling, NumberTooLarge}
-
-abbrev pub Read : Type 0 → Type 0
-Read T = Result T Refusal
-
--- first this, and then what follows from it
-abbrev pub next : {T U : Type 0} → Read T → (T → Read U) → Read U
-next (Ok x) go_on = go_on x
-next (Err refusal) go_on = Err refusal
-
--- this, if the test is passed
-abbrev pub only_if : {T : Type 0} → Bool → Refusal → Read T → Read T
-only_if true refusal go_on = go_on
-only_if false refusal go_on = Err refusal
 
 abbrev pub refusal_of : AttrFault → Refusal
 refusal_of (fault.BadAttribute at position) = BadAttribute at position
@@ -38,14 +26,20 @@ as_read (Ok x) = Ok x
 as_read (Err f) = Err (refusal_of f)
 
 -- an attribute that must be set
-abbrev pub wanted : {T : Type 0} → ℕ → ℕ → Reading (Option T) → Read T
-wanted at position (Ok (Some x)) = Ok x
-wanted at position (Ok None) = Err (BadAttribute at position)
-wanted at position (Err f) = Err (refusal_of f)
+abbrev pub wanted_value : {T : Type 0} → ℕ → ℕ → Reading (Option T) → Read T
+wanted_value at position (Ok (Some x)) = Ok x
+wanted_value at position (Ok None) = Err (BadAttribute at position)
+wanted_value at position (Err f) = Err (refusal_of f)
 
 -- an attribute that says more than is read where it is set
-abbrev pub unset : {T : Type 0} → DataSection → ℕ → ℕ → Read T → Read T
-unset section at position go_on = only_if (is_none (attribute section at position)) (Unsupported at) go_on
+abbrev pub if_unset : {T : Type 0} → DataSection → ℕ → ℕ → Read T → Read T
+if_unset section at position go_on = only_if (is_none (attribute section at position)) (Unsupported at) go_on
+
+-- The instances of a file by their numbers.
+
+-- the numbers of the instances, in file order
+abbrev pub numbers_of : DataSection → List ℕ
+numbers_of section = map (λ i. i.number) section.instances
 
 -- Kinds.
 
@@ -65,18 +59,18 @@ has_kind section n k = instance_has_kind section.text k (instance_of section n)
 abbrev pub is_one_of : DataSection → List Kind → ℕ → Bool
 is_one_of section kinds n = list_any (has_kind section n) kinds
 
-abbrev pub of_kinds : DataSection → List Kind → ℕ → Read ℕ
-of_kinds section kinds n = only_if (is_one_of section kinds n) (Unsupported n) (Ok n)
+abbrev pub instance_of_kinds : DataSection → List Kind → ℕ → Read ℕ
+instance_of_kinds section kinds n = only_if (is_one_of section kinds n) (Unsupported n) (Ok n)
 
 -- References, lists and numbers.
 
 -- the instance that a wanted attribute names, of one of these kinds
-abbrev pub named : DataSection → List Kind → ℕ → ℕ → Read ℕ
-named section kinds at position = next (wanted at position (attr_ref section at position)) (of_kinds section kinds)
+abbrev pub named_instance : DataSection → List Kind → ℕ → ℕ → Read ℕ
+named_instance section kinds at position = next (wanted_value at position (attr_ref section at position)) (instance_of_kinds section kinds)
 
 -- the instance that a member of a list names
-abbrev pub named_by : DataSection → ℕ → ℕ → Param → Read ℕ
-named_by section at position p = as_read (read_ref section at position p)
+abbrev pub member_instance : DataSection → ℕ → ℕ → Param → Read ℕ
+member_instance section at position p = as_read (read_ref section at position p)
 
 abbrev pub if_any : {X : Type 0} → ℕ → ℕ → List X → Read (List X)
 if_any at position [] = Err (BadAttribute at position)
@@ -84,7 +78,7 @@ if_any at position (x ∷ xs) = Ok (x ∷ xs)
 
 -- the members of a wanted list, of which there must be one
 abbrev pub members : DataSection → ℕ → ℕ → Read (List Param)
-members section at position = next (wanted at position (attr_list section at position)) (if_any at position)
+members section at position = next (wanted_value at position (attr_list section at position)) (if_any at position)
 
 -- each of them, in order
 abbrev pub each : {X T : Type 0} → (X → Read T) → List X → Read (List T)
@@ -97,4 +91,4 @@ number section at position p = as_read (read_real section at position p)
 
 -- a wanted number, in units of 10^-12
 abbrev pub wanted_number : DataSection → ℕ → ℕ → Read ℤ
-wanted_number section at position = wanted at position (attr_real section at position)
+wanted_number section at position = wanted_value at position (attr_real section at position)

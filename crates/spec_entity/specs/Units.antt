@@ -1,7 +1,6 @@
 -- The length unit of a file (IFC4): the project's units, and in them the first unit of length. The millimetre is built.
 use Rattle.std.specs.Prelude.{ℕ, ℤ, ◌*ℤ◌, ◌^◌, pos, Bool, false, ◌&&◌, nat_le, int_lt, unsigned_abs, List, [], ◌∷◌, Option, Some, None, Result, Ok, Err, codes, if◌then◌else◌}
 use Rattle.std.specs.List.{find}
-use Rattle.std.specs.Option.{option_map}
 use Rattle.std.specs.Str.{str_eq_ignore_ascii_case}
 use Rattle.spec_num.specs.Rounding.{round_of}
 use Rattle.spec_step.specs.declared.tree.Param.{Param}
@@ -11,11 +10,12 @@ use Rattle.ifc_kinds.specs.declared.kind.Kind.TheVariants as kind
 use Rattle.spec_refusal.specs.declared.Refusal.TheVariants.{NumberTooLarge, BadAttribute}
 use Rattle.spec_refusal.specs.declared.UnitFault.{UnitFault}
 use Rattle.spec_refusal.specs.declared.UnitFault.TheVariants.{NoProject, NoLengthUnit}
-use Rattle.spec_entity.specs.Reads.{Read, next, only_if, has_kind, is_one_of, named, members, number, wanted_number, body_has_kind}
+use Rattle.spec_refusal.specs.Reads.{Read, next, only_if}
+use Rattle.spec_entity.specs.Reads.{has_kind, is_one_of, named_instance, members, number, wanted_number, numbers_of}
 
 -- the number of the first project of the file
 abbrev pub first_project : DataSection → Option ℕ
-first_project section = option_map (λ i. i.number) (find (λ i. body_has_kind section.text kind.Project i.body) section.instances)
+first_project section = find (λ n. has_kind section n kind.Project) (numbers_of section)
 
 -- an attribute is this enumeration, in letters of any case
 abbrev pub says : List ℕ → Reading (Option (List ℕ)) → Bool
@@ -50,7 +50,7 @@ is_millimetre section n =
 -- the unit of length of a project, if it has one
 abbrev pub unit_of : DataSection → ℕ → Read (Option ℕ)
 unit_of section project =
-    next (named section (kind.UnitAssignment ∷ []) project 9) (λ units.
+    next (named_instance section (kind.UnitAssignment ∷ []) project 9) (λ units.
     next (members section units 1) (λ ps. Ok (first_length_unit section units ps)))
 
 abbrev pub is_millimetre_read : DataSection → Read (Option ℕ) → Bool
@@ -80,14 +80,14 @@ nanometres units = round_of (units *ℤ pos (10 ^ 6)) (pos (10 ^ 12))
 abbrev pub most_nanometres : ℕ
 most_nanometres = 10 ^ 16
 
-abbrev pub length_of : ℕ → ℤ → Read ℤ
-length_of at units = only_if (nat_le (unsigned_abs (nanometres units)) most_nanometres) (NumberTooLarge at) (Ok (nanometres units))
+abbrev pub length_within : ℕ → ℤ → Read ℤ
+length_within at units = only_if (nat_le (unsigned_abs (nanometres units)) most_nanometres) (NumberTooLarge at) (Ok (nanometres units))
 
 -- a length of a list
 abbrev pub length : DataSection → ℕ → ℕ → Param → Read ℤ
-length section at position p = next (number section at position p) (length_of at)
+length section at position p = next (number section at position p) (length_within at)
 
 -- a wanted length above 0
 abbrev pub positive : DataSection → ℕ → ℕ → Read ℤ
 positive section at position =
-    next (wanted_number section at position) (λ v. only_if (int_lt (pos 0) v) (BadAttribute at position) (length_of at v))
+    next (wanted_number section at position) (λ v. only_if (int_lt (pos 0) v) (BadAttribute at position) (length_within at v))

@@ -1,2 +1,2 @@
-//! Rules of numbers: decimal texts, their values, and rounding. This crate has definitions alone.
+//! Rules of numbers: decimal texts, their values, rounding, whole roots, and the order of fractions. This crate has definitions alone.
 #![tactic(auto)]

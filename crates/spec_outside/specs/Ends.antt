@@ -1,5 +1,5 @@
 -- What clauses see of the project's own sources and sinks.
-use Rattle.std.specs.Prelude.{ℕ, ◌+◌, ◌-◌, ◌^◌, min, List}
+use Rattle.std.specs.Prelude.{ℕ, ◌+◌, ◌-◌, ◌^◌, min, List, Option}
 
 -- a counter that stays at the end of its type, 2^64 - 1
 abbrev pub next_count : ℕ → ℕ
@@ -34,3 +34,12 @@ pub record FailingSink : Type 0 where
 pub record Counted (X : Type 0) : Type 0 where
   pub inner : X
   pub faults : ℕ
+
+-- what is known of a source or of a sink: the bytes that it still has to give, or that it holds, where it tells them, and
+-- its count of faults
+pub record Known : Type 0 where
+  pub bytes : Option (List ℕ)
+  pub faults : ℕ
+
+abbrev pub known : Option (List ℕ) → ℕ → Known
+known bytes faults = record { bytes = bytes; faults = faults }

@@ -1,27 +1,49 @@
--- What is found in the bytes of an input: too many, another form than is built, or one wall.
-use Rattle.std.specs.Prelude.{◌≡◌, ℕ, ◌^◌, ◌≤◌, List, length, ◌⊎◌}
-use Rattle.spec_step.specs.declared.line.PlainLine.{PlainLine}
-use Rattle.spec_step.specs.Lines.{DepartsFile}
-use Rattle.spec_step.specs.Rules.{IsKept, BreaksAt}
-use Rattle.spec_page.specs.Element.{Element, world_frame}
-use Rattle.spec_headline.specs.Headline.{IsPrintOf}
-use Rattle.spec_run.specs.Walls.{wall_body}
+-- What an input is: a file that is converted, or one that is refused, and why.
+use Rattle.std.specs.Prelude.{◌≡◌, ℕ, ◌^◌, ◌≤◌, ◌<◌, List, length, Ok, Err}
+use Rattle.spec_step.specs.declared.tree.Entry.{Entry}
+use Rattle.spec_step.specs.declared.fault.StepFault.{StepFault}
+use Rattle.spec_step.specs.declared.fault.StepFault.TheVariants as step
+use Rattle.spec_step.specs.Files.{IsAccepted, IsCause}
+use Rattle.spec_table.specs.Sections.{DataSection}
+use Rattle.spec_entity.specs.Units.{length_unit}
+use Rattle.spec_refusal.specs.declared.UnitFault.{UnitFault}
+use Rattle.spec_refusal.specs.declared.UnitFault.TheVariants as unit
+use Rattle.spec_run.specs.declared.FileFault.{FileFault}
+use Rattle.spec_run.specs.declared.FileFault.TheVariants.{TooLarge, Syntax, Nested, Schema, DuplicateNumber, NoProject, NoLengthUnit}
 
 -- the greatest number of bytes that are read
 abbrev pub most_bytes : ℕ
 most_bytes = 2 ^ 27
 
--- the input is not of the form that is built, or breaks a rule, at this place: the form is tested first, then the rules
--- on the lines in order
-abbrev pub IsNotBuilt : List ℕ → ℕ → Type 0
-IsNotBuilt s at = (length s ≤ most_bytes) × (DepartsFile s at ⊎ BreaksAt s at)
+-- the bytes are a STEP file that passes the checks, and this is its DATA section
+pub record IsFileWith (given : List ℕ) (section : DataSection) : Type 0 where
+  pub small : length given ≤ most_bytes
+  pub text : section.text ≡ given
+  pub head : List Entry
+  pub accepted : IsAccepted given head section.instances
 
--- the input is a file of one wall, with these solid lines and the line of this number as its item, and keeps the rules
-abbrev pub IsWall : List ℕ → List PlainLine → ℕ → Type 0
-IsWall s lines item = (length s ≤ most_bytes) × IsKept s lines item
+-- such a file with a project and a unit of length that is read: its elements are converted, or named by their own lines
+pub record IsInput (given : List ℕ) (section : DataSection) : Type 0 where
+  pub file : IsFileWith given section
+  pub unit : length_unit section ≡ Ok tt
 
--- this is the printed element of the file's one wall, on the grid of 1000 micrometres
-pub record IsElementOf (s : List ℕ) (lines : List PlainLine) (item : ℕ) (e : Element) : Type 0 where
-  pub number : e.number ≡ 13
-  pub frame : e.frame ≡ world_frame
-  pub print : IsPrintOf (wall_body s lines item) 1000 e
+-- the text is no file, or does not pass the checks
+pub record IsNoFile (given : List ℕ) (why : StepFault) : Type 0 where
+  pub small : length given ≤ most_bytes
+  pub cause : IsCause given why
+
+-- the file passes the checks, and has no unit of length that is read
+pub record LacksUnit (given : List ℕ) (why : UnitFault) : Type 0 where
+  pub section : DataSection
+  pub file : IsFileWith given section
+  pub unit : length_unit section ≡ Err why
+
+-- why these bytes are refused: exactly one of these holds of bytes that are no input
+abbrev pub IsFaultOf : List ℕ → FileFault → Type 0
+IsFaultOf given TooLarge = most_bytes < length given
+IsFaultOf given (Syntax at) = IsNoFile given (step.Syntax at)
+IsFaultOf given (Nested at) = IsNoFile given (step.Nested at)
+IsFaultOf given Schema = IsNoFile given step.Schema
+IsFaultOf given (DuplicateNumber n first second) = IsNoFile given (step.DuplicateNumber n first second)
+IsFaultOf given NoProject = LacksUnit given unit.NoProject
+IsFaultOf given NoLengthUnit = LacksUnit given unit.NoLengthUnit

@@ -1,6 +1,4 @@
 pub mod Words
-pub mod Boxes
-pub mod Walls
 pub mod Inputs
+pub mod Findings
 pub mod Reports
-pub mod Runs

@@ -3,7 +3,7 @@
 use Rattle.std.specs.Prelude.{◌≡◌, ℕ, List, [], ◌++◌, map, codes, if◌then◌else◌, All}
 use Rattle.std.specs.List.{flat_map}
 use Rattle.std.specs.Str.{str_to_ascii_uppercase}
-use Rattle.spec_step.specs.Form.{is_keyword}
+use Rattle.spec_step.specs.Kinds.{is_keyword_kind}
 use Rattle.spec_step.specs.Spans.{bytes_at}
 use Rattle.spec_step.specs.Lexemes.{Lexeme, HasTokens}
 use Rattle.spec_step.specs.Files.{IsFile, is_mark_of}
@@ -19,15 +19,15 @@ use Rattle.spec_step.specs.declared.tree.Body.TheVariants.{Simple, Complex}
 use Rattle.spec_step.specs.declared.tree.Instance.{Instance}
 
 -- the bytes of a token, of a keyword in capitals
-abbrev pub printed : Lexeme → List ℕ
-printed l = if is_keyword l.kind then str_to_ascii_uppercase l.text else l.text
+abbrev pub printed_bytes : Lexeme → List ℕ
+printed_bytes l = if is_keyword_kind l.kind then str_to_ascii_uppercase l.text else l.text
 
 -- and the line feed behind a semicolon
 abbrev pub line_end : Lexeme → List ℕ
 line_end l = if is_mark_of (codes ";") l then codes "\n" else []
 
 abbrev pub canonical : List Lexeme → List ℕ
-canonical ls = flat_map (λ l. printed l ++ line_end l) ls
+canonical ls = flat_map (λ l. printed_bytes l ++ line_end l) ls
 
 -- the page is the canonical spelling of the text's tokens
 abbrev pub IsCanonical : List ℕ → List ℕ → Type 0
@@ -47,11 +47,11 @@ layer_moved move (layer.Reference n) = param.Reference n
 layer_moved move (layer.List ps) = param.List ps
 layer_moved move (layer.Typed k p) = param.Typed (move k) p
 
-abbrev pub moved : (Span → Span) → Param → Param
-moved move = fold-Param Param (layer_moved move)
+abbrev pub moved_param : (Span → Span) → Param → Param
+moved_param move = fold-Param Param (layer_moved move)
 
 abbrev pub moved_entry : (Span → Span) → Entry → Entry
-moved_entry move e = record { keyword = move e.keyword; params = map (moved move) e.params }
+moved_entry move e = record { keyword = move e.keyword; params = map (moved_param move) e.params }
 
 abbrev pub moved_body : (Span → Span) → Body → Body
 moved_body move (Simple e) = Simple (moved_entry move e)
@@ -65,5 +65,5 @@ moved_instance move i =
 -- the page is a file with the same numbers, the same keywords in capitals, and parameters with the same texts
 pub record IsReprint (s : List ℕ) (head : List Entry) (instances : List Instance) (page : List ℕ) : Type 0 where
   pub move : Span → Span
-  pub texts : (ls : List Lexeme) → HasTokens s ls → All (λ l. bytes_at page (move l.span) ≡ printed l) ls
+  pub texts : (ls : List Lexeme) → HasTokens s ls → All (λ l. bytes_at page (move l.span) ≡ printed_bytes l) ls
   pub file : IsFile page (map (moved_entry move) head) (map (moved_instance move) instances)

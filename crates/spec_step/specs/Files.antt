@@ -1,16 +1,14 @@
 -- Files, and where and why a text is none.
-use Rattle.std.specs.Prelude.{◌≡◌, ◌≢◌, ℕ, ◌+◌, ◌-◌, ◌≤◌, Bool, true, false, ◌&&◌, List, [], ◌∷◌, ◌++◌, codes, All, AllPairs, if◌then◌else◌}
+use Rattle.std.specs.Prelude.{◌≡◌, ◌≢◌, ℕ, ◌+◌, ◌-◌, ◌≤◌, Bool, true, ◌&&◌, List, [], ◌∷◌, ◌++◌, codes, All, AllPairs, if◌then◌else◌}
 use Rattle.std.specs.List.{Contains}
 use Rattle.std.specs.Str.{str_eq_ignore_ascii_case, bytes_eq}
-use Rattle.spec_step.specs.Gaps.{IsNext}
-use Rattle.spec_step.specs.Form.{place_of}
+use Rattle.spec_step.specs.Kinds.{is_mark_kind}
+use Rattle.spec_step.specs.Gaps.{IsNext, step_place}
 use Rattle.spec_step.specs.Lexemes.{Lexeme, lexeme_of, IsToken, Reads, HasTokens}
 use Rattle.spec_step.specs.Grammar.{IsDerived}
 use Rattle.spec_step.specs.Spans.{bytes_at}
 use Rattle.spec_step.specs.declared.token.Token.{Token}
 use Rattle.spec_step.specs.declared.token.Span.{Span}
-use Rattle.spec_step.specs.declared.token.TokenKind.{TokenKind}
-use Rattle.spec_step.specs.declared.token.TokenKind.TheVariants as kind
 use Rattle.spec_step.specs.declared.token.TokenStep.{TokenStep}
 use Rattle.spec_step.specs.declared.token.TokenStep.TheVariants.{Got, Bad, End}
 use Rattle.spec_step.specs.declared.tree.Param.{Param}
@@ -21,18 +19,6 @@ use Rattle.spec_step.specs.declared.fault.StepFault.{StepFault}
 use Rattle.spec_step.specs.declared.fault.StepFault.TheVariants.{Syntax, Nested, Schema, DuplicateNumber, NoMemory}
 
 -- Depth.
-
-abbrev pub is_mark_kind : TokenKind → Bool
-is_mark_kind kind.Mark = true
-is_mark_kind kind.StartWord = false
-is_mark_kind kind.EndWord = false
-is_mark_kind kind.Keyword = false
-is_mark_kind kind.Number = false
-is_mark_kind kind.Int = false
-is_mark_kind kind.Real = false
-is_mark_kind kind.Text = false
-is_mark_kind kind.Enumeration = false
-is_mark_kind kind.Binary = false
 
 abbrev pub is_mark_of : List ℕ → Lexeme → Bool
 is_mark_of text l = is_mark_kind l.kind && bytes_eq l.text text
@@ -107,7 +93,7 @@ pub record HasSyntaxFault (s : List ℕ) (at : ℕ) : Type 0 where
   pub shallow : IsShallow before
   pub next : IsNext s to step
   pub breaks : BreaksOff s before step
-  pub place : at ≡ place_of s step
+  pub place : at ≡ step_place s step
 
 -- the token at this place may stand here, and opens the 33rd parenthesis that stands open
 pub record HasNestedFault (s : List ℕ) (at : ℕ) : Type 0 where

@@ -51,3 +51,9 @@ abbrev pub IsNext : List ℕ → ℕ → TokenStep → Type 0
 IsNext s from (Got t) = GapEnds s from t.from × (t.from < t.end) × IsLongest is_spelled (drop t.from s) t.kind (t.end - t.from)
 IsNext s from (Bad at) = GapEnds s from at × (at < length s) × NoToken is_spelled (drop at s)
 IsNext s from End = Between s from (length s)
+
+-- where what stands next begins: the first byte of the token, the byte at which none begins, or the end
+abbrev pub step_place : List ℕ → TokenStep → ℕ
+step_place s (Got t) = t.from
+step_place s (Bad at) = at
+step_place s End = length s

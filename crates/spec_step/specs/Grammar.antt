@@ -37,17 +37,17 @@ pub data Want : Type 0 where
   ending : ℕ → Want
 
 -- the letters are those of the word, in any case
-abbrev pub is_word : List ℕ → Lexeme → Bool
-is_word w l = str_eq_ignore_ascii_case l.text w
+abbrev pub spells_word : List ℕ → Lexeme → Bool
+spells_word w l = str_eq_ignore_ascii_case l.text w
 
 -- a token is as wanted
 abbrev pub IsAs : Want → Lexeme → Type 0
 IsAs start_word l = l.kind ≡ kind.StartWord
 IsAs end_word l = l.kind ≡ kind.EndWord
-IsAs (word w) l = (l.kind ≡ kind.Keyword) × (is_word w l ≡ true)
+IsAs (word w) l = (l.kind ≡ kind.Keyword) × (spells_word w l ≡ true)
 IsAs (mark b) l = (l.kind ≡ kind.Mark) × (l.text ≡ b ∷ [])
 IsAs (spanned k p) l = (l.kind ≡ k) × (l.span ≡ p)
-IsAs (head_keyword p) l = (l.kind ≡ kind.Keyword) × (l.span ≡ p) × (is_word (codes "ENDSEC") l ≡ false)
+IsAs (head_keyword p) l = (l.kind ≡ kind.Keyword) × (l.span ≡ p) × (spells_word (codes "ENDSEC") l ≡ false)
 IsAs (reference n) l = (l.kind ≡ kind.Number) × (value (drop 1 l.text) ≡ n)
 IsAs (number n from) l = (l.kind ≡ kind.Number) × (value (drop 1 l.text) ≡ n) × (l.span.from ≡ from)
 IsAs (ending end) l = (l.kind ≡ kind.Mark) × (l.text ≡ codes ";") × (l.span.end ≡ end)

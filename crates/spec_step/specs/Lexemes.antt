@@ -2,7 +2,7 @@
 use Rattle.std.specs.Prelude.{◌≡◌, ℕ, true, List, [], ◌∷◌}
 use Rattle.spec_step.specs.Spelling.{is_spelled}
 use Rattle.spec_step.specs.Gaps.{IsNext}
-use Rattle.spec_step.specs.Form.{text_of}
+use Rattle.spec_step.specs.Spans.{bytes_at, span_of}
 use Rattle.spec_step.specs.declared.token.Token.{Token}
 use Rattle.spec_step.specs.declared.token.Span.{Span}
 use Rattle.spec_step.specs.declared.token.TokenKind.{TokenKind}
@@ -16,7 +16,7 @@ pub record Lexeme : Type 0 where
 
 -- the token of a text
 abbrev pub lexeme_of : List ℕ → Token → Lexeme
-lexeme_of s t = record { kind = t.kind; span = record { from = t.from; end = t.end }; text = text_of s t }
+lexeme_of s t = record { kind = t.kind; span = span_of t; text = bytes_at s (span_of t) }
 
 -- the bytes are those of a token of the kind
 abbrev pub IsToken : Lexeme → Type 0

@@ -1,13 +1,9 @@
 pub mod Spelling
 pub mod Longest
+pub mod Kinds
 pub mod Gaps
-pub mod Form
 pub mod Spans
 pub mod Lexemes
 pub mod Grammar
 pub mod Files
 pub mod Canonical
-pub mod Slots
-pub mod Lines
-pub mod Rules
-pub mod Sound

@@ -7,7 +7,7 @@ use Rattle.spec_step.specs.declared.tree.Param.{Param, out-Param}
 use Rattle.spec_step.specs.declared.tree.Param.TheOpen.{Param-F}
 use Rattle.spec_step.specs.declared.tree.Param.TheOpen as layer
 use Rattle.spec_table.specs.Sections.{DataSection, instance_of, param_of}
-use Rattle.spec_table.specs.Opened.{opened, said}
+use Rattle.spec_table.specs.Innermost.{innermost, unless_unset}
 use Rattle.spec_table.specs.declared.fault.AttrFault.{AttrFault}
 use Rattle.spec_table.specs.declared.fault.AttrFault.TheVariants.{BadAttribute, Dangling, NumberTooLarge}
 
@@ -23,7 +23,7 @@ layer_ref section at position (layer.Reference n) = if is_some (instance_of sect
 layer_ref section at position x = Err (BadAttribute at position)
 
 abbrev pub read_ref : DataSection → ℕ → ℕ → Param → Reading ℕ
-read_ref section at position p = layer_ref section at position (out-Param (opened p))
+read_ref section at position p = layer_ref section at position (out-Param (innermost p))
 
 -- an integer or a real, in units of 10^-12
 abbrev pub units_of : ℕ → List ℕ → Reading ℤ
@@ -35,7 +35,7 @@ layer_real section at position (layer.Real p) = units_of at (bytes_at section.te
 layer_real section at position x = Err (BadAttribute at position)
 
 abbrev pub read_real : DataSection → ℕ → ℕ → Param → Reading ℤ
-read_real section at position p = layer_real section at position (out-Param (opened p))
+read_real section at position p = layer_real section at position (out-Param (innermost p))
 
 -- the bytes between the first and the last
 abbrev pub inside : List ℕ → List ℕ
@@ -47,7 +47,7 @@ layer_enum section at position (layer.Enumeration p) = Ok (inside (bytes_at sect
 layer_enum section at position x = Err (BadAttribute at position)
 
 abbrev pub read_enum : DataSection → ℕ → ℕ → Param → Reading (List ℕ)
-read_enum section at position p = layer_enum section at position (out-Param (opened p))
+read_enum section at position p = layer_enum section at position (out-Param (innermost p))
 
 -- the bytes between the quotes of a text, as they stand
 abbrev pub layer_text : DataSection → ℕ → ℕ → Param-F Param → Reading (List ℕ)
@@ -55,7 +55,7 @@ layer_text section at position (layer.Text p) = Ok (inside (bytes_at section.tex
 layer_text section at position x = Err (BadAttribute at position)
 
 abbrev pub read_text : DataSection → ℕ → ℕ → Param → Reading (List ℕ)
-read_text section at position p = layer_text section at position (out-Param (opened p))
+read_text section at position p = layer_text section at position (out-Param (innermost p))
 
 -- the members of a list, as they stand
 abbrev pub layer_list : ℕ → ℕ → Param-F Param → Reading (List Param)
@@ -63,13 +63,13 @@ layer_list at position (layer.List ps) = Ok ps
 layer_list at position x = Err (BadAttribute at position)
 
 abbrev pub read_list : ℕ → ℕ → Param → Reading (List Param)
-read_list at position p = layer_list at position (out-Param (opened p))
+read_list at position p = layer_list at position (out-Param (innermost p))
 
 -- Attributes, which may be unset: $, * or no parameter at that position.
 
 -- the parameter at a position, unless it is unset
 abbrev pub attribute : DataSection → ℕ → ℕ → Option Param
-attribute section at position = option_and_then said (param_of section at position)
+attribute section at position = option_and_then unless_unset (param_of section at position)
 
 abbrev pub some_of : {T : Type 0} → Reading T → Reading (Option T)
 some_of (Ok x) = Ok (Some x)

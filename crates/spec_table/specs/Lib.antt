@@ -1,3 +1,3 @@
 pub mod Sections
-pub mod Opened
+pub mod Innermost
 pub mod Attributes

@@ -26,7 +26,7 @@ use Rattle.step_grammar.specs.declared.place.Place.{Place}
 use Rattle.step_grammar.specs.declared.place.Place.TheVariants as place
 use Rattle.step_grammar.proofs.Complete.{plain, in_head, in_simple, in_complex, head_carries, simple_carries, complex_carries}
 use Rattle.step_grammar.proofs.Frames.{InEntry, FitsSpot, FitsFixed, FitsAt, fits}
-use Rattle.step_grammar.proofs.Leads.{run_on-append, map_both}
+use Rattle.step_grammar.proofs.Runs.{run_on-append, map_both}
 use Rattle.step_grammar.proofs.Sound.{sound_is}
 
 -- some tokens end a file from here

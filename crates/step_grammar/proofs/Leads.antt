@@ -1,5 +1,5 @@
 -- What is spelled leads from the place before it to the place behind it.
-use Rattle.std.proofs.Common.{◌≡◌, ℕ, List, [], ◌∷◌, ◌++◌, Option, Some, None, map, refl, sym, ◌∙◌, ap, subst, append_assoc}
+use Rattle.std.proofs.Common.{◌≡◌, ℕ, List, [], ◌∷◌, ◌++◌, Some, map, refl, sym, ◌∙◌, ap, subst, append_assoc}
 use Rattle.std.specs.List.{AllZip}
 use Rattle.spec_step.specs.Lexemes.{Lexeme}
 use Rattle.spec_step.specs.Grammar.{Want, mark, spanned, reference, IsAs, opening, closing, members, further, layer_spelling, spelling, arguments}
@@ -21,18 +21,13 @@ use Rattle.step_grammar.specs.declared.entry.Frame.{Frame}
 use Rattle.step_grammar.specs.declared.entry.Frame.TheVariants as frame
 use Rattle.step_grammar.specs.declared.entry.Spot.{Spot}
 use Rattle.step_grammar.specs.declared.entry.Spot.TheVariants as spot
+use Rattle.step_grammar.proofs.Runs.{run_on-append, map_both}
 use Rattle.step_grammar.proofs.Said.{as_mark, as_spanned, as_reference}
 
 -- Tokens that are as wanted lead from one state to another.
 
 pub record Leads (q : State) (ws : List Want) (next : State) : Type 0 where
   pub leads : (ls : List Lexeme) → AllZip IsAs ws ls → run_on (Some q) (map symbol_of ls) ≡ Some next
-
--- a run over two lists of symbols, one after the other
-pub run_on-append : (o : Option State) (xs ys : List Symbol) → run_on o (xs ++ ys) ≡ run_on (run_on o xs) ys
-run_on-append None xs ys = refl
-run_on-append (Some p) [] ys = refl
-run_on-append (Some p) (x ∷ xs) ys = run_on-append (step p x) xs ys
 
 nil_run : (q : State) (ls : List Lexeme) → AllZip IsAs [] ls → run_on (Some q) (map symbol_of ls) ≡ Some q
 nil_run q [] h = refl
@@ -63,10 +58,6 @@ split (x ∷ xs) ys [] h = absurd h
 split (x ∷ xs) ys (l ∷ ls) h =
     let s : Split xs ys ls = split xs ys ls h.1 in
     record { front = l ∷ s.front; rest = s.rest; both = ap (λ z. l ∷ z) s.both; zip_front = (h.0, s.zip_front); zip_rest = s.zip_rest }
-
-pub map_both : (ls ms : List Lexeme) → map symbol_of (ls ++ ms) ≡ map symbol_of ls ++ map symbol_of ms
-map_both [] ms = refl
-map_both (x ∷ ls) ms = ap (λ xs. symbol_of x ∷ xs) (map_both ls ms)
 
 both_run : (q mid next : State) (xs ys : List Want) → Leads q xs mid → Leads mid ys next → (ls : List Lexeme) → AllZip IsAs (xs ++ ys) ls → run_on (Some q) (map symbol_of ls) ≡ Some next
 both_run q mid next xs ys h k ls z =

@@ -3,7 +3,7 @@ use Rattle.std.proofs.Common.{◌≡◌, ℕ, Bool, true, false, List, get_or, c
 use Rattle.std.proofs.lemmas.Slice.Eq.{bytes_eq-Decides}
 use Rattle.std.specs.Str.{str_eq_ignore_ascii_case, str_to_ascii_lowercase, bytes_eq}
 use Rattle.spec_step.specs.Lexemes.{Lexeme}
-use Rattle.spec_step.specs.Grammar.{word, mark, spanned, head_keyword, reference, number, ending, IsAs, is_word}
+use Rattle.spec_step.specs.Grammar.{word, mark, spanned, head_keyword, reference, number, ending, IsAs, spells_word}
 use Rattle.spec_step.specs.declared.token.Span.{Span}
 use Rattle.spec_step.specs.declared.token.TokenKind.{TokenKind}
 use Rattle.spec_step.specs.declared.token.TokenKind.TheVariants as kind
@@ -46,7 +46,7 @@ name_of_small text =
 same_bytes : (a b : List ℕ) → bytes_eq a b ≡ true → a ≡ b
 same_bytes a b h = (bytes_eq-Decides a b).0 h
 
-same_name : (w : List ℕ) (l : Lexeme) → is_word w l ≡ true → name_of l.text ≡ name_of w
+same_name : (w : List ℕ) (l : Lexeme) → spells_word w l ≡ true → name_of l.text ≡ name_of w
 same_name w l h = ap name_of_small (same_bytes (str_to_ascii_lowercase l.text) (str_to_ascii_lowercase w) h)
 
 pub as_word : (w : List ℕ) (l : Lexeme) → IsAs (word w) l → symbol_of l ≡ symbol.Keyword l.span (name_of w)

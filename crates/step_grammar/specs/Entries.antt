@@ -20,14 +20,14 @@ abbrev pub at : Option Spot → List Frame → Option Stand
 at None frames = None
 at (Some p) frames = Some (p, frames)
 
-abbrev pub param_of : Atom → Param
-param_of atom.Unset = param.Unset
-param_of atom.Derived = param.Derived
-param_of (atom.Int p) = param.Int p
-param_of (atom.Real p) = param.Real p
-param_of (atom.Text p) = param.Text p
-param_of (atom.Enumeration p) = param.Enumeration p
-param_of (atom.Binary p) = param.Binary p
+abbrev pub atom_param : Atom → Param
+atom_param atom.Unset = param.Unset
+atom_param atom.Derived = param.Derived
+atom_param (atom.Int p) = param.Int p
+atom_param (atom.Real p) = param.Real p
+atom_param (atom.Text p) = param.Text p
+atom_param (atom.Enumeration p) = param.Enumeration p
+atom_param (atom.Binary p) = param.Binary p
 
 abbrev pub with_last : List Param → Param → List Param
 with_last ps p = ps ++ p ∷ []
@@ -45,7 +45,7 @@ step_named k frames symbol.Close = None
 step_named k frames symbol.Comma = None
 
 abbrev pub step_before : List Frame → Symbol → Option Stand
-step_before frames (symbol.Atom a) = Some (spot.Behind (param_of a), frames)
+step_before frames (symbol.Atom a) = Some (spot.Behind (atom_param a), frames)
 step_before frames (symbol.Number n from) = Some (spot.Behind (param.Reference n), frames)
 step_before frames (symbol.Keyword p n) = Some (spot.Typed p, frames)
 step_before frames symbol.Open = Some (spot.Opened, frame.List [] ∷ frames)

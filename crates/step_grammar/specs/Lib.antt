@@ -1,5 +1,4 @@
 pub mod Entries
-pub mod Numbers
 pub mod Places
 pub mod Symbols
 pub mod Runs

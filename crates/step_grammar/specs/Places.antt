@@ -30,9 +30,9 @@ pub record State : Type 0 where
 abbrev pub state : Place → Progress → State
 state p progress = record { place = p; frames = reverse progress.frames.items; head = progress.head; instances = progress.instances }
 
-abbrev pub moved : Option Place → Progress → Option State
-moved None progress = None
-moved (Some p) progress = Some (state p progress)
+abbrev pub next_state : Option Place → Progress → Option State
+next_state None progress = None
+next_state (Some p) progress = Some (state p progress)
 
 abbrev pub place_if : Bool → Place → Option Place
 place_if passes p = if passes then Some p else None

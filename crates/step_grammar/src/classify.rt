@@ -3,7 +3,6 @@ ghost use Rattle.std.specs.Char.{IsAsciiDigit};
 ghost use Rattle.spec_num.specs.Decimals.{value};
 ghost use Rattle.spec_step.specs.Spelling.{is_spelled};
 ghost use Rattle.step_grammar.specs.Symbols.{name_of, mark_symbol, symbol_by};
-ghost use Rattle.step_grammar.specs.Numbers.{AreDigits};
 
 use crate::symbol::{Atom, Name, Symbol};
 use spec_step::{Span, Token, TokenKind};
@@ -45,7 +44,7 @@ fn mark(byte: u8, end: usize) -> Symbol
 
 /// The number of at most 18 decimal digits.
 fn number(digits: &[u8]) -> u64
-    requires digits { AreDigits digits.now }
+    requires digits { All IsAsciiDigit digits.now }
     requires few { length digits.now ≤ 18 }
     ensures { result ≡ value digits.now }
 {

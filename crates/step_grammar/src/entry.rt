@@ -1,5 +1,5 @@
 ghost use Rattle.std.specs.Prelude.{◌≡◌, IfOk, reverse};
-ghost use Rattle.step_grammar.specs.Entries.{at, param_of, step_named, step_before, step_opened, step_typed, step_behind, entry_step, with_last};
+ghost use Rattle.step_grammar.specs.Entries.{at, atom_param, step_named, step_before, step_opened, step_typed, step_behind, entry_step, with_last};
 
 use crate::symbol::{Atom, Symbol};
 use spec_step::{Entry, Param, Span};
@@ -35,8 +35,8 @@ pub enum Spot {
 }
 
 /// The parameter that is one token.
-fn param_of(atom: Atom) -> Param
-    ensures { result ≡ param_of atom }
+fn atom_param(atom: Atom) -> Param
+    ensures { result ≡ atom_param atom }
 {
     match atom {
         Atom::Unset => Param::Unset,
@@ -84,7 +84,7 @@ fn step_before(
     ensures { IfOk result (λ spot. at spot (reverse frames.new.items) ≡ step_before (reverse frames.old.items) symbol) }
 {
     match symbol {
-        Symbol::Atom(atom) => Ok(Some(Spot::Behind(param_of(atom)))),
+        Symbol::Atom(atom) => Ok(Some(Spot::Behind(atom_param(atom)))),
         Symbol::Number { number, .. } => Ok(Some(Spot::Behind(Param::Reference(number)))),
         Symbol::Keyword(keyword, _) => Ok(Some(Spot::Typed(keyword))),
         Symbol::Open => {

@@ -1,5 +1,5 @@
 ghost use Rattle.std.specs.Prelude.{◌≡◌, ◌<◌, ◌↔◌, IfOk, IsTrue};
-ghost use Rattle.step_grammar.specs.Places.{place_if, is_semicolon, is_name, step_fixed, step_head, step_instances, step_numbered, step_equated, step_opened_instance, step, state, moved, with_instance, with_entry, open_at};
+ghost use Rattle.step_grammar.specs.Places.{place_if, is_semicolon, is_name, step_fixed, step_head, step_instances, step_numbered, step_equated, step_opened_instance, step, state, next_state, with_instance, with_entry, open_at};
 
 use crate::entry::{Spot, entry_step};
 use crate::place::{Fixed, Key, Place, Progress};
@@ -120,7 +120,7 @@ fn step_head_entry(
     progress: &mut Progress,
     symbol: Symbol,
 ) -> Result<Option<Place>, AllocError>
-    ensures { IfOk result (λ place. moved place progress.new ≡ step (state (Place.HeadEntry spot) progress.old) symbol) }
+    ensures { IfOk result (λ place. next_state place progress.new ≡ step (state (Place.HeadEntry spot) progress.old) symbol) }
 {
     match (spot, symbol) {
         (Spot::Read(entry), Symbol::Semicolon { .. }) => {
@@ -143,7 +143,7 @@ fn add_instance(
     end: usize,
     progress: &mut Progress,
 ) -> Result<Option<Place>, AllocError>
-    ensures { IfOk result (λ place. moved place progress.new ≡ Some (with_instance key body end (state Place.Instances progress.old))) }
+    ensures { IfOk result (λ place. next_state place progress.new ≡ Some (with_instance key body end (state Place.Instances progress.old))) }
 {
     progress.instances.push(Instance {
         number: key.number,
@@ -162,7 +162,7 @@ fn step_simple(
     progress: &mut Progress,
     symbol: Symbol,
 ) -> Result<Option<Place>, AllocError>
-    ensures { IfOk result (λ place. moved place progress.new ≡ step (state (Place.Simple key spot) progress.old) symbol) }
+    ensures { IfOk result (λ place. next_state place progress.new ≡ step (state (Place.Simple key spot) progress.old) symbol) }
 {
     match (spot, symbol) {
         (Spot::Read(entry), Symbol::Semicolon { end }) => {
@@ -194,7 +194,7 @@ fn step_complex(
     progress: &mut Progress,
     symbol: Symbol,
 ) -> Result<Option<Place>, AllocError>
-    ensures { IfOk result (λ place. moved place progress.new ≡ step (state (Place.Complex key entries spot) progress.old) symbol) }
+    ensures { IfOk result (λ place. next_state place progress.new ≡ step (state (Place.Complex key entries spot) progress.old) symbol) }
 {
     match (spot, symbol) {
         (Spot::Read(entry), Symbol::Keyword(keyword, _)) => {
@@ -221,7 +221,7 @@ fn step_closed(
     progress: &mut Progress,
     symbol: Symbol,
 ) -> Result<Option<Place>, AllocError>
-    ensures { IfOk result (λ place. moved place progress.new ≡ step (state (Place.Closed key entries) progress.old) symbol) }
+    ensures { IfOk result (λ place. next_state place progress.new ≡ step (state (Place.Closed key entries) progress.old) symbol) }
 {
     match symbol {
         Symbol::Semicolon { end } => add_instance(key, Body::Complex(entries), end, progress),
@@ -236,7 +236,7 @@ pub fn step(
     progress: &mut Progress,
     symbol: Symbol,
 ) -> Result<Option<Place>, AllocError>
-    ensures { IfOk result (λ next. moved next progress.new ≡ step (state place progress.old) symbol) }
+    ensures { IfOk result (λ next. next_state next progress.new ≡ step (state place progress.old) symbol) }
 {
     match place {
         Place::Fixed(fixed) => Ok(step_fixed(fixed, symbol)),

@@ -5,7 +5,7 @@ use Rattle.std.specs.List.{find}
 use Rattle.std.specs.Prelude.{slice_get}
 use Rattle.std.specs.Option.{option_or, option_map, option_and_then}
 use Rattle.spec_step.specs.declared.tree.Instance.{Instance}
-use Rattle.step_table.specs.Places.{place_of}
+use Rattle.step_table.specs.Places.{first_place}
 
 moved : (o : Option ℕ) (b : Bool) (k : ℕ) → option_map (λ p. p + 1) (option_or o (if b then Some k else None)) ≡ option_or (option_map (λ p. p + 1) o) (if b then Some (suc k) else None)
 moved None true k = ap Some (omega arith)
@@ -19,24 +19,24 @@ here_or_later false o o' last k e = e ∙ moved o last k
 
 -- with one instance more
 pub place_more : (instances : List Instance) (i : Instance) (n : ℕ)
-    → place_of (instances ++ i ∷ []) n ≡ option_or (place_of instances n) (if i.number == n then Some (length instances) else None)
+    → first_place (instances ++ i ∷ []) n ≡ option_or (first_place instances n) (if i.number == n then Some (length instances) else None)
 place_more [] i n = refl
 place_more (j ∷ instances) i n =
-    here_or_later (j.number == n) (place_of instances n) (option_map (λ p. p + 1) (place_of (instances ++ i ∷ []) n)) (i.number == n) (length instances) (ap (option_map (λ p. p + 1)) (place_more instances i n))
+    here_or_later (j.number == n) (first_place instances n) (option_map (λ p. p + 1) (first_place (instances ++ i ∷ []) n)) (i.number == n) (length instances) (ap (option_map (λ p. p + 1)) (place_more instances i n))
 
 -- the same at the place that a loop has come to
 pub place_at : (instances : List Instance) (place n : ℕ) (i : Instance) (old new : Option ℕ) → place < length instances
     → take (place + 1) instances ≡ take place instances ++ i ∷ []
-    → old ≡ place_of (take place instances) n
+    → old ≡ first_place (take place instances) n
     → new ≡ option_or old (if i.number == n then Some place else None)
-    → new ≡ place_of (take (place + 1) instances) n
+    → new ≡ first_place (take (place + 1) instances) n
 place_at instances place n i old new lt more e h =
     let count : length (take place instances) ≡ place = length-take-le place instances (omega arith) in
     h
     ∙ ap (λ o. option_or o (if i.number == n then Some place else None)) e
-    ∙ ap (λ k. option_or (place_of (take place instances) n) (if i.number == n then Some k else None)) (sym count)
+    ∙ ap (λ k. option_or (first_place (take place instances) n) (if i.number == n then Some k else None)) (sym count)
     ∙ sym (place_more (take place instances) i n)
-    ∙ ap (λ xs. place_of xs n) (sym more)
+    ∙ ap (λ xs. first_place xs n) (sym more)
 
 there : (b : Bool) (i : Instance) (instances : List Instance) (o : Option ℕ) (found : Option Instance)
     → option_and_then (slice_get instances) o ≡ found
@@ -46,6 +46,6 @@ there false i instances None found e = e
 there false i instances (Some p) found e = let next : p + 1 ≡ suc p = omega arith in ap (slice_get (i ∷ instances)) next ∙ e
 
 -- the instance at that place
-pub found_there : (instances : List Instance) (n : ℕ) → option_and_then (slice_get instances) (place_of instances n) ≡ find (λ i. i.number == n) instances
+pub found_there : (instances : List Instance) (n : ℕ) → option_and_then (slice_get instances) (first_place instances n) ≡ find (λ i. i.number == n) instances
 found_there [] n = refl
-found_there (i ∷ instances) n = there (i.number == n) i instances (place_of instances n) (find (λ i. i.number == n) instances) (found_there instances n)
+found_there (i ∷ instances) n = there (i.number == n) i instances (first_place instances n) (find (λ i. i.number == n) instances) (found_there instances n)

@@ -6,11 +6,11 @@ use Rattle.spec_table.specs.declared.fault.AttrFault.{AttrFault}
 use Rattle.spec_table.specs.Attributes.{Reading}
 
 -- what is lent, or why nothing is read
-abbrev pub lent : {T : Type 0} → Result (Bor T) AttrFault → Reading T
-lent (Ok x) = Ok x.now
-lent (Err fault) = Err fault
+abbrev pub as_reading : {T : Type 0} → Result (Bor T) AttrFault → Reading T
+as_reading (Ok x) = Ok x.now
+as_reading (Err fault) = Err fault
 
 -- the same of an attribute that may be unset
-abbrev pub lent_if_set : {T : Type 0} → Result (Option (Bor T)) AttrFault → Reading (Option T)
-lent_if_set (Ok o) = Ok (option_copied o)
-lent_if_set (Err fault) = Err fault
+abbrev pub as_reading_if_set : {T : Type 0} → Result (Option (Bor T)) AttrFault → Reading (Option T)
+as_reading_if_set (Ok o) = Ok (option_copied o)
+as_reading_if_set (Err fault) = Err fault

@@ -1,7 +1,7 @@
 ghost use Rattle.std.specs.Prelude.{◌≡◌, ◌==◌, ℕ, nat_eq, Some, None, if◌then◌else◌, IfOk, OnOk};
 ghost use Rattle.std.specs.Option.{option_or};
 ghost use Rattle.indexmap.specs.IndexMap.{get};
-ghost use Rattle.step_table.specs.Places.{place_of};
+ghost use Rattle.step_table.specs.Places.{first_place};
 
 use indexmap::IndexMap;
 use spec_step::Instance;
@@ -21,7 +21,7 @@ fn note(places: &mut IndexMap<u64, usize>, number: u64, place: usize) -> Result<
 /// The places of instances by their numbers, counted from 0; of several instances with one number
 /// the place of the first.
 pub fn places_of(alloc: Global, instances: &[Instance]) -> Result<IndexMap<u64, usize>, AllocError>
-    ensures { IfOk result (λ places. (n : ℕ) → get nat_eq places n ≡ place_of instances.now n) }
+    ensures { IfOk result (λ places. (n : ℕ) → get nat_eq places n ≡ first_place instances.now n) }
 {
     let mut places = IndexMap::new(alloc);
     for (place, instance) in instances.iter().enumerate() {

@@ -2,7 +2,7 @@
 #![tactic(auto)]
 
 mod index;
-mod opened;
+mod innermost;
 mod table;
 #[cfg(test)]
 mod tests;

@@ -3,11 +3,11 @@ ghost use Rattle.std.specs.Option.{option_copied};
 ghost use Rattle.spec_step.specs.Files.{HasDistinctNumbers};
 ghost use Rattle.spec_table.specs.Sections.{instance_of, param_of, IsSimple};
 ghost use Rattle.spec_table.specs.Attributes.{attribute, inside, read_ref, read_real, read_enum, read_text, read_list, attr_ref, attr_real, attr_enum, attr_text, attr_list};
-ghost use Rattle.step_table.specs.Answers.{lent, lent_if_set};
-ghost use Rattle.step_table.specs.Places.{place_of};
+ghost use Rattle.step_table.specs.Answers.{as_reading, as_reading_if_set};
+ghost use Rattle.step_table.specs.Places.{first_place};
 
 use crate::index::places_of;
-use crate::opened::opened;
+use crate::innermost::innermost;
 use indexmap::IndexMap;
 use ix_num::Decimal;
 use spec_step::{Body, Instance, Param};
@@ -39,12 +39,12 @@ impl<'a> Model for Table<'a> {
 
     ghost use Rattle.indexmap.specs.IndexMap.{get};
     ghost use Rattle.spec_step.specs.Files.{HasDistinctNumbers};
-    ghost use Rattle.step_table.specs.Places.{place_of};
+    ghost use Rattle.step_table.specs.Places.{first_place};
 
     ghost view = { λ t. record { text = t.file.source.now; instances = t.file.instances } };
 
     ghost invariant = { λ t. HasDistinctNumbers t.file.instances
-        × ((n : ℕ) → get nat_eq t.places n ≡ place_of t.file.instances n) };
+        × ((n : ℕ) → get nat_eq t.places n ≡ first_place t.file.instances n) };
 }
 
 impl<'a> Table<'a> {
@@ -79,7 +79,7 @@ impl<'a> Table<'a> {
 
     /// The place of the instance of a number.
     fn place(&self, number: u64) -> Option<usize>
-        ensures { result ≡ place_of self.now.instances number }
+        ensures { result ≡ first_place self.now.instances number }
     {
         self.places.get(&number).copied()
     }
@@ -116,7 +116,7 @@ impl<'a> Table<'a> {
         ensures { option_copied result ≡ attribute self.now at position }
     {
         let param = self.param(at, position)?;
-        match opened(param) {
+        match innermost(param) {
             Param::Unset | Param::Derived => None,
             _ => Some(param),
         }
@@ -132,7 +132,7 @@ impl<'a> Table<'a> {
     pub fn param_ref(&self, at: u64, position: usize, p: &Param) -> Result<u64, AttrFault>
         ensures { result ≡ read_ref self.now at position p.now }
     {
-        match opened(p) {
+        match innermost(p) {
             Param::Reference(number) if self.get(*number).is_some() => Ok(*number),
             Param::Reference(number) => Err(AttrFault::Dangling {
                 at,
@@ -153,7 +153,7 @@ impl<'a> Table<'a> {
     pub fn param_real(&self, at: u64, position: usize, p: &Param) -> Result<i128, AttrFault>
         ensures { result ≡ read_real self.now at position p.now }
     {
-        match opened(p) {
+        match innermost(p) {
             Param::Int(span) | Param::Real(span) => {
                 Decimal::read(bytes_at(self.source(), *span)).map_err(
                     |_| AttrFault::NumberTooLarge { at },
@@ -165,9 +165,9 @@ impl<'a> Table<'a> {
 
     /// The letters of an enumeration, without its points.
     fn param_enum(&self, at: u64, position: usize, p: &Param) -> Result<&[u8], AttrFault>
-        ensures { lent result ≡ read_enum self.now at position p.now }
+        ensures { as_reading result ≡ read_enum self.now at position p.now }
     {
-        match opened(p) {
+        match innermost(p) {
             Param::Enumeration(span) => Ok(inside(bytes_at(self.source(), *span))),
             _ => Err(AttrFault::BadAttribute { at, position }),
         }
@@ -175,9 +175,9 @@ impl<'a> Table<'a> {
 
     /// The bytes of a text, without its quotes.
     fn param_text(&self, at: u64, position: usize, p: &Param) -> Result<&[u8], AttrFault>
-        ensures { lent result ≡ read_text self.now at position p.now }
+        ensures { as_reading result ≡ read_text self.now at position p.now }
     {
-        match opened(p) {
+        match innermost(p) {
             Param::Text(span) => Ok(inside(bytes_at(self.source(), *span))),
             _ => Err(AttrFault::BadAttribute { at, position }),
         }
@@ -228,7 +228,7 @@ impl<'a> Table<'a> {
     pub fn attr_enum(&self, at: u64, position: usize) -> Result<Option<&[u8]>, AttrFault>
         requires simple { IsSimple self.now at }
         requires counted { 1 ≤ position }
-        ensures { lent_if_set result ≡ attr_enum self.now at position }
+        ensures { as_reading_if_set result ≡ attr_enum self.now at position }
     {
         match self.attribute(at, position) {
             Some(param) => Ok(Some(self.param_enum(at, position, param)?)),
@@ -246,7 +246,7 @@ impl<'a> Table<'a> {
     pub fn attr_text(&self, at: u64, position: usize) -> Result<Option<&[u8]>, AttrFault>
         requires simple { IsSimple self.now at }
         requires counted { 1 ≤ position }
-        ensures { lent_if_set result ≡ attr_text self.now at position }
+        ensures { as_reading_if_set result ≡ attr_text self.now at position }
     {
         match self.attribute(at, position) {
             Some(param) => Ok(Some(self.param_text(at, position, param)?)),
@@ -263,7 +263,7 @@ impl<'a> Table<'a> {
     pub fn attr_list(&self, at: u64, position: usize) -> Result<Option<&[Param]>, AttrFault>
         requires simple { IsSimple self.now at }
         requires counted { 1 ≤ position }
-        ensures { lent_if_set result ≡ attr_list self.now at position }
+        ensures { as_reading_if_set result ≡ attr_list self.now at position }
     {
         match self.attribute(at, position) {
             Some(param) => Ok(Some(param_list(at, position, param)?)),
@@ -284,9 +284,9 @@ fn inside(text: &[u8]) -> &[u8]
 
 /// The members of a list.
 fn param_list(at: u64, position: usize, list: &Param) -> Result<&[Param], AttrFault>
-    ensures { lent result ≡ read_list at position list.now }
+    ensures { as_reading result ≡ read_list at position list.now }
 {
-    match opened(list) {
+    match innermost(list) {
         Param::List(members) => Ok(members.as_slice()),
         _ => Err(AttrFault::BadAttribute { at, position }),
     }

@@ -8,7 +8,7 @@ use Rattle.spec_step.specs.Files.{IsShallow, BeginsFile, BreaksOff, open_behind}
 use Rattle.spec_step.specs.declared.token.Token.{Token}
 use Rattle.spec_step.specs.declared.token.TokenStep.{TokenStep}
 use Rattle.spec_step.specs.declared.token.TokenStep.TheVariants.{Got, End}
-use Rattle.step_text.proofs.Unique.{one_next}
+use Rattle.step_token.proofs.Unique.{one_next}
 use Rattle.step_text.proofs.Glue.{reads_tokens}
 
 pub one_got : (s : List ℕ) (at : ℕ) (t u : Token) → IsNext s at (Got t) → IsNext s at (Got u) → t ≡ u

@@ -1,5 +1,5 @@
 -- The reading loop, by the laws of the machine.
-use Rattle.std.proofs.Common.{◌≡◌, ℕ, ◌+◌, ◌-◌, ◌<◌, ◌≤◌, List, [], ◌∷◌, ◌++◌, Some, None, All, length, refl, sym, ◌∙◌, ap, arith, subst, Bool, true, false, codes, if◌then◌else◌, inl, inr, ◌⊎◌, map, reverse, append-nil}
+use Rattle.std.proofs.Common.{◌≡◌, ℕ, ◌+◌, ◌-◌, ◌<◌, ◌≤◌, List, [], ◌∷◌, ◌++◌, Some, None, All, length, refl, sym, ◌∙◌, ap, arith, subst, Bool, true, false, codes, if◌then◌else◌, inl, inr, ◌⊎◌, reverse, append-nil}
 use Rattle.spec_step.specs.Gaps.{IsNext}
 use Rattle.spec_step.specs.Lexemes.{Lexeme, lexeme_of, IsToken, Reads}
 use Rattle.spec_step.specs.Files.{IsFile, IsShallow, HasSyntaxFault, HasNestedFault, open_behind, open_after, is_mark_of}
@@ -16,7 +16,7 @@ use Rattle.step_text.specs.Answers.{IsCauseOrWant}
 use Rattle.step_text.specs.Reading.{Goes, Halts}
 use Rattle.step_text.proofs.HasRead.{HasRead}
 use Rattle.std.proofs.lemmas.List.Elements.{All-cons}
-use Rattle.step_text.proofs.Places.{got_behind, got_end}
+use Rattle.step_token.proofs.Places.{got_behind, got_end}
 use Rattle.step_grammar.specs.Places.{state}
 use Rattle.step_grammar.specs.declared.place.Progress.{Progress}
 use Rattle.step_grammar.specs.declared.entry.Frame.{Frame}
@@ -26,14 +26,13 @@ use Rattle.std.proofs.Common.{Result, Ok, Err, IfOk, IfErr, IsErrAnd}
 use Rattle.step_text.specs.Reading.{IsWhole, IsUnfinished}
 use Rattle.step_text.specs.declared.read.Trees.{Trees}
 use Rattle.step_grammar.specs.declared.place.Place.{Place}
-use Rattle.step_text.proofs.Runs.{run_on-append, run_on-nil, map-last}
+use Rattle.step_grammar.proofs.Runs.{run_on-nil, runs_both}
 use Rattle.step_text.proofs.Laws.{sound, complete, begins, no_begin, depth, place_whole}
 
 -- one token more
 pub runs_more : (ls : List Lexeme) (l : Lexeme) (q : State) → runs ls ≡ Some q → runs (ls ++ l ∷ []) ≡ step q (symbol_of l)
 runs_more ls l q h =
-    ap (run_on (Some start)) (map-last ls l) ∙ run_on-append (Some start) (map symbol_of ls) (symbol_of l ∷ [])
-    ∙ ap (λ o. run_on o (symbol_of l ∷ [])) h ∙ run_on-nil (step q (symbol_of l))
+    runs_both ls (l ∷ []) ∙ ap (λ o. run_on o (symbol_of l ∷ [])) h ∙ run_on-nil (step q (symbol_of l))
 
 pub reads_more : (s : List ℕ) (from at : ℕ) (ls : List Lexeme) (t : Token) → Reads s from ls at → IsNext s at (Got t) → Reads s from (ls ++ lexeme_of s t ∷ []) t.end
 reads_more s from at [] t h next = (t, subst (λ n. IsNext s n (Got t)) (sym h) next, refl, refl)

@@ -7,7 +7,7 @@ use Rattle.spec_step.specs.declared.tree.Entry.{Entry}
 use Rattle.spec_step.specs.declared.tree.Instance.{Instance}
 use Rattle.step_grammar.specs.Symbols.{symbol_of}
 use Rattle.step_grammar.specs.Places.{State, open_at, run_on}
-use Rattle.step_text.proofs.Runs.{runs_both, none_goes_on}
+use Rattle.step_grammar.proofs.Runs.{runs_both, none_goes_on}
 use Rattle.step_grammar.proofs.Complete.{complete_is}
 use Rattle.step_grammar.proofs.Depth.{depth_is}
 use Rattle.step_grammar.proofs.Ends.{begins_is}

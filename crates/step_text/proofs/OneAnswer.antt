@@ -1,9 +1,8 @@
 -- A text has one answer: it is accepted with one pair of lists, or refused with one cause.
 use Rattle.std.proofs.Common.{◌≡◌, ℕ, List, [], ◌∷◌, ◌++◌, Some, Result, Ok, Err, IsErrAnd, append-nil, refl, sym, ◌∙◌, ap, subst, inl, inr, ◌⊎◌}
-use Rattle.spec_step.specs.Gaps.{IsNext}
+use Rattle.spec_step.specs.Gaps.{IsNext, step_place}
 use Rattle.spec_step.specs.Lexemes.{Lexeme, lexeme_of, IsToken, Reads, HasTokens}
 use Rattle.spec_step.specs.Grammar.{IsDerived}
-use Rattle.spec_step.specs.Form.{place_of}
 use Rattle.spec_step.specs.Files.{IsFile, IsAccepted, IsCause, NamesSchema, RepeatsFirst, BeginsFile, BreaksOff, HasSyntaxFault, HasNestedFault, LacksSchema, HasDuplicate}
 use Rattle.spec_step.specs.declared.token.Token.{Token}
 use Rattle.spec_step.specs.declared.token.TokenStep.{TokenStep}
@@ -16,7 +15,7 @@ use Rattle.step_grammar.specs.Runs.{runs, whole}
 use Rattle.step_text.specs.Answers.{IsCauseOrWant, IsOkOrWant, IsFaultOrWant}
 use Rattle.std.proofs.Math.Logic.{∥∥₁_elim}
 use Rattle.std.proofs.lemmas.List.Elements.{All-nil}
-use Rattle.step_text.proofs.Unique.{one_next}
+use Rattle.step_token.proofs.Unique.{one_next}
 use Rattle.step_text.proofs.Laws.{complete}
 use Rattle.step_text.proofs.Fronts.{one_got, got_or_end, Fronts, fronts, begins_front, broken, too_deep}
 use Rattle.step_text.proofs.Glue.{reads_tokens}
@@ -51,7 +50,7 @@ one_file s h g i j p q =
 syntax_once : (s : List ℕ) (p q : ℕ) (f : HasSyntaxFault s p) (g : HasSyntaxFault s q) → Fronts s f.before f.to g.before g.to → p ≡ q
 syntax_once s p q f g (inl same) =
     let there : IsNext s f.to g.step = subst (λ n. IsNext s n g.step) (sym same.1) g.next in
-    f.place ∙ ap (place_of s) (one_next s f.to f.step g.step f.next there) ∙ sym g.place
+    f.place ∙ ap (step_place s) (one_next s f.to f.step g.step f.next there) ∙ sym g.place
 syntax_once s p q f g (inr (inl on)) = absurd (broken s g.before g.to f.before f.to g.step on g.next g.breaks f.begins)
 syntax_once s p q f g (inr (inr on)) = absurd (broken s f.before f.to g.before g.to f.step on f.next f.breaks g.begins)
 

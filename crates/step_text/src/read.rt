@@ -1,6 +1,6 @@
 ghost use Rattle.std.specs.Prelude.{◌≡◌, ◌≤◌, IfOk, IfErr, IsTrue, length};
 ghost use Rattle.spec_step.specs.Spelling.{is_spelled};
-ghost use Rattle.spec_step.specs.Form.{text_of};
+ghost use Rattle.spec_step.specs.Spans.{bytes_at, span_of};
 ghost use Rattle.spec_step.specs.Lexemes.{lexeme_of};
 ghost use Rattle.spec_step.specs.Files.{IsFile};
 ghost use Rattle.step_grammar.specs.Places.{state, step};
@@ -8,11 +8,11 @@ ghost use Rattle.step_grammar.specs.Symbols.{symbol_of};
 ghost use Rattle.step_text.specs.Answers.{IsCauseOrWant};
 ghost use Rattle.step_text.specs.Reading.{Goes, Halts, IsWhole, IsUnfinished};
 
-use crate::next::next_token;
 use spec_step::{Entry, Instance, Span, StepFault, Token, TokenStep};
 use sqlite_items::Items;
 use std::alloc::Global;
 use step_grammar::{Fixed, Place, Progress, is_too_deep, step, symbol_of};
+use step_token::next_token;
 
 /// The head entries and the instances of a file.
 #[derive(Debug, Drop)]
@@ -49,7 +49,7 @@ fn read_token(
 ) -> Result<Place, StepFault>
     requires ordered { token.from ≤ token.end }
     requires within { token.end ≤ length source.now }
-    requires spelled { IsTrue (is_spelled token.kind (text_of source.now token)) }
+    requires spelled { IsTrue (is_spelled token.kind (bytes_at source.now (span_of token))) }
     ensures goes { IfOk result (λ next. Goes (step (state place progress.old) (symbol_of (lexeme_of source.now token)))
         (state next progress.new)) }
     ensures halts { IfErr result (λ fault. Halts (step (state place progress.old) (symbol_of (lexeme_of source.now token)))

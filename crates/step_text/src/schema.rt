@@ -3,8 +3,8 @@ ghost use Rattle.std.specs.List.{list_any};
 ghost use Rattle.spec_step.specs.Files.{NamesSchema};
 ghost use Rattle.step_text.specs.Schemas.{is_schema, is_schema_list, is_schema_entry};
 
-use crate::bytes::bytes_at;
 use spec_step::{Entry, Param};
+use step_token::bytes_at;
 
 /// A text that names a schema that is read.
 fn is_schema(source: &[u8], param: &Param) -> bool

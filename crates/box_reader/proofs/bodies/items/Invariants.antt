@@ -1,7 +1,7 @@
 use Rattle.std.proofs.Common.{◌≡◌, ◌≤◌, ◌++◌, drop, map, Ok}
-use Rattle.spec_entity.specs.Reads.{next}
+use Rattle.spec_refusal.specs.Reads.{next}
 use Rattle.spec_entity.specs.Solids.{items}
-use Rattle.box_reader.specs.Views.{expression_of}
+use Rattle.box_expressions.specs.Views.{expression_of}
 use Rattle.box_reader.proofs.bodies.items.Given as goal
 
 abbrev pub invariant-loop-p : goal.invariant-loop-p

@@ -10,13 +10,13 @@ overflow_mul-number c =
 
 pub overflow_add-number : goal.overflow_add-number
 overflow_add-number c =
-    let digit = c.requires.digits c.loop-digit.digit-index (omega arith) in
+    let digit = c.requires.digits c.loop-digit.digit-index 0 (omega arith) in
     let few = few_digits c.loop-digit.number c.loop-digit.digit-index c.from.result 18 c.loop-digit.invariant.small (omega (arith, digit)) (omega arith) in
     omega (arith, few)
 
 pub loop-digit-preserved : goal.loop-digit-preserved
 loop-digit-preserved c =
-    let digit = c.requires.digits c.loop-digit.digit-index (omega arith) in
+    let digit = c.requires.digits c.loop-digit.digit-index 0 (omega arith) in
     record {
       is = ap (λ n. n * 10 + c.from.result) c.loop-digit.invariant.is
           ∙ ap (λ d. value (take c.loop-digit.digit-index c.args.digits.now) * 10 + d) c.from.ensures

@@ -1,9 +1,0 @@
--- Answers that lend parts of a table.
-use Rattle.std.specs.Prelude.{Result, Ok, Err}
-use Rattle.std.specs.Borrow.{Bor}
-use Rattle.spec_refusal.specs.declared.Refusal.{Refusal}
-use Rattle.spec_entity.specs.Reads.{Read}
-
-abbrev pub lent_read : {T : Type 0} → Result (Bor T) Refusal → Read T
-lent_read (Ok x) = Ok x.now
-lent_read (Err refusal) = Err refusal

@@ -1,0 +1,5 @@
+use Rattle.entity_reader.proofs.Simple.{elements_simple}
+use Rattle.entity_reader.proofs.element_list.elements.Goals as goal
+
+pub returns-clause-simple : goal.returns-clause-simple
+returns-clause-simple c = elements_simple c.args.table.now c.element_numbers.result c.element_numbers.ensures

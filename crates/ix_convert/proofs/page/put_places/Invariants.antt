@@ -1,8 +1,0 @@
-use Rattle.std.proofs.Common.{◌≡◌, ◌++◌, drop}
-use Rattle.std.specs.List.{flat_map}
-use Rattle.spec_page.specs.Page.{index_text}
-use Rattle.ix_convert.proofs.page.put_places.Given as goal
-
--- what was put so far, with what is still to come, is the whole text
-abbrev pub invariant-loop-place : goal.invariant-loop-place
-invariant-loop-place l = l.page.items ++ flat_map (index_text 0) (drop l.place-index l.places) ≡ l.fn.page.items ++ flat_map (index_text 0) l.places

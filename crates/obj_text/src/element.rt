@@ -1,0 +1,90 @@
+ghost use Rattle.std.specs.Prelude.{◌≡◌, ◌<◌, ◌^◌, ◌++◌, OnOk, Some, codes};
+ghost use Rattle.spec_page.specs.Items.{Printed};
+ghost use Rattle.spec_page.specs.Lines.{frame_line, volume_line, number_line, element_body};
+ghost use Rattle.spec_page.specs.Page.{item_lines};
+ghost use Rattle.plain_engine.specs.Prints.{element_of};
+
+use crate::faces::{put_corners, put_faces};
+use crate::lines::put_frame;
+use crate::numbers::{put_number_line, put_spaced};
+use plain_engine::PrintedMesh;
+use spec_page::Frame;
+use spec_space::Vector;
+use std::alloc::AllocError;
+
+/// The frame of the world.
+const WORLD: Frame = Frame {
+    x: Vector {
+        x: 1_000_000_000,
+        y: 0,
+        z: 0,
+    },
+    y: Vector {
+        x: 0,
+        y: 1_000_000_000,
+        z: 0,
+    },
+    z: Vector {
+        x: 0,
+        y: 0,
+        z: 1_000_000_000,
+    },
+    off: Vector { x: 0, y: 0, z: 0 },
+};
+
+/// Appends the sixfold volume, or that there is none.
+fn put_volume(page: &mut Vec<u8>, six: Option<i128>) -> Result<(), AllocError>
+    ensures { OnOk result (page.new.items ≡ page.old.items ++ volume_line six) }
+{
+    match six {
+        None => page.extend_from_slice(b"#vol6 none\n"),
+        Some(six) => put_sixfold(page, six),
+    }
+}
+
+fn put_sixfold(page: &mut Vec<u8>, six: i128) -> Result<(), AllocError>
+    ensures { OnOk result (page.new.items ≡ page.old.items ++ volume_line (Some six)) }
+{
+    page.extend_from_slice(b"#vol6")?;
+    put_spaced(page, six)?;
+    page.push(b'\n')?;
+    Ok(())
+}
+
+/// Appends the first lines of an element's block.
+fn put_head(page: &mut Vec<u8>, number: u64, frame: &Frame) -> Result<(), AllocError>
+    ensures { OnOk result (page.new.items ≡ page.old.items ++ (number_line (codes "o ") number ++ frame_line frame.now)) }
+{
+    put_number_line(page, b"o ", number)?;
+    put_frame(page, frame)
+}
+
+/// Appends the corners, the faces and the volume of a mesh.
+fn put_mesh(page: &mut Vec<u8>, number: u64, mesh: &PrintedMesh, before: u128) -> Result<(), AllocError>
+    requires { before < 2 ^ 127 }
+    ensures { OnOk result (page.new.items ≡ page.old.items ++ element_body before (element_of number mesh.now)) }
+{
+    put_corners(page, &mesh.mesh.corners, &mesh.printed)?;
+    put_faces(page, before, &mesh.mesh.faces)?;
+    put_volume(page, mesh.six)
+}
+
+/// Appends the block of the element of a number, in the frame of the world: its corners, exact in
+/// grid steps and printed in metres, its faces with their planes, and its volume. So many corners
+/// stand before it on the page.
+///
+/// # Errors
+///
+/// Want of memory.
+pub fn write_element(
+    page: &mut Vec<u8>,
+    number: u64,
+    mesh: &PrintedMesh,
+    before: u128,
+) -> Result<(), AllocError>
+    requires { before < 2 ^ 127 }
+    ensures { OnOk result (page.new.items ≡ page.old.items ++ item_lines before (Printed (element_of number mesh.now))) }
+{
+    put_head(page, number, &WORLD)?;
+    put_mesh(page, number, mesh, before)
+}

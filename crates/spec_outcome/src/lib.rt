@@ -1,0 +1,2 @@
+//! What becomes of each element of a file. This crate has definitions alone.
+#![tactic(auto)]

@@ -1,0 +1,9 @@
+pub mod Vectors
+pub mod Lengths
+pub mod Directions
+pub mod Axes
+pub mod Transforms
+pub mod Frames
+pub mod Chains
+pub mod Maps
+pub mod HalfSpaces

@@ -1,6 +1,0 @@
-use Rattle.std.proofs.Common.{◌≡◌, ◌++◌, take, map}
-use Rattle.std.specs.Char.{to_ascii_uppercase}
-use Rattle.step_text.proofs.print.put_token.Given as goal
-
-abbrev pub invariant-loop-byte : goal.invariant-loop-byte
-invariant-loop-byte l = l.page.items ≡ l.fn.page.items ++ map to_ascii_uppercase (take l.byte-index l.text)

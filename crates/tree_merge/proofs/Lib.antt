@@ -1,0 +1,6 @@
+mod Weights
+mod Frames
+mod Twos
+mod Rights
+mod Steps
+mod Tops

@@ -1,0 +1,13 @@
+//! The merge of two trees of planes under a table of four values.
+#![tactic(auto)]
+
+mod next;
+mod step;
+mod table;
+#[cfg(test)]
+mod tests;
+mod walk;
+mod work;
+
+pub use table::Table4;
+pub use walk::merge;

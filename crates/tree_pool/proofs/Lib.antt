@@ -1,0 +1,11 @@
+pub mod Pools
+pub mod Inserted
+pub mod Equal
+pub mod Walks
+pub mod Lists
+pub mod Removed
+pub mod Counted
+pub mod Reached
+pub mod Swept
+pub mod Overs
+pub mod Laws

@@ -1,0 +1,4 @@
+pub mod Trees
+pub mod Pools
+pub mod Index
+pub mod Kept
