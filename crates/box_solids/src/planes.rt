@@ -11,8 +11,8 @@ use plane_core::PlaneBook;
 use spec_space::Plane;
 use std::alloc::{AllocError, Global};
 
-/// The plane, reduced.
-fn reduced(plane: &Plane) -> plane_core::Plane
+/// The reduced form of the plane.
+fn reduction_of(plane: &Plane) -> plane_core::Plane
     requires small { IsSmallPlane plane.now }
     ensures { let k = plane.now in IsReductionOf result k.a k.b k.c k.d }
 {
@@ -29,7 +29,7 @@ fn add_plane(book: &mut PlaneBook, plane: &Plane) -> Result<(), AllocError>
     ensures added { OnOk result (HasAdded book.old (plane.now ∷ []) book.new) }
     ensures kept { IsKept book.old book.new }
 {
-    book.add(reduced(plane))?;
+    book.add(reduction_of(plane))?;
     Ok(())
 }
 

@@ -8,4 +8,4 @@ mod outward;
 mod tests;
 
 pub use builder::MeshBuilder;
-pub use micrometres::printed;
+pub use micrometres::micrometres_of;

@@ -20,7 +20,7 @@ fn in_micrometres(x: i128, w: i128) -> i128
 
 /// The corner in micrometres in the world, where the grid step is 1000 micrometres, rounded to whole ones, a half upwards
 /// (a rule of this project). No coordinate has a size above 2^21 grid steps.
-pub fn printed(corner: &Corner) -> Vector
+pub fn micrometres_of(corner: &Corner) -> Vector
     requires { IsWithinReach corner.now }
     ensures { result ≡ rounded_image world_frame 1000 (point_of corner.now) }
 {

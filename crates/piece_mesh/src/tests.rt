@@ -3,7 +3,7 @@ ghost use Rattle.plane_core.specs.declared.numbers.Plane.{Plane as BookPlane};
 ghost use Rattle.plane_core.specs.Books.{BeginsWithWalls};
 ghost use Rattle.poly_frag.specs.Cycles.{IsCycle};
 
-use crate::{MeshBuilder, printed};
+use crate::{MeshBuilder, micrometres_of};
 use exact_mesh::ExactMesh;
 use plane_core::{Corner, PlaneBook, PlaneId};
 use poly_frag::{Edge, Frag};
@@ -150,6 +150,6 @@ fn prints_a_half_rounded_up(rt: HostRuntime) {
         z: 3,
         w: 16,
     };
-    let place = printed(&corner);
+    let place = micrometres_of(&corner);
     assert_eq!(rt; (place.x, place.y, place.z), (63, -62, 188));
 }

@@ -63,7 +63,7 @@ fn add_plane(
 }
 
 /// The exact mesh of the element, whose planes are those of the book from number 6 on. The error is want of memory.
-pub(crate) fn exact(
+pub(crate) fn find_mesh(
     alloc: Global,
     book: &PlaneBook,
     solids: &[BoxSolid],

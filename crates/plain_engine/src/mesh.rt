@@ -6,7 +6,7 @@ ghost use Rattle.box_solids.specs.Trees.{box_count, body_of};
 ghost use Rattle.box_solids.specs.Views.{tree_of};
 ghost use Rattle.plain_engine.specs.Prints.{element_of};
 
-use crate::faces::exact;
+use crate::faces::find_mesh;
 use crate::prints::print_corners;
 use box_solids::{BoxSolid, plane_book};
 use exact_mesh::{ExactMesh, sixfold};
@@ -33,7 +33,7 @@ pub fn make_mesh(alloc: Global, solids: &[BoxSolid]) -> Result<PrintedMesh, Allo
     ensures order { IfOk result (λ m. AreInFirstUse m.mesh.corners.items (map face_of m.mesh.faces.items)) }
 {
     let book = plane_book(alloc, solids)?;
-    let mesh = exact(alloc, &book, solids)?;
+    let mesh = find_mesh(alloc, &book, solids)?;
     let printed = print_corners(alloc, &mesh.corners)?;
     let six = sixfold(&printed, &mesh.faces);
     Ok(PrintedMesh { mesh, printed, six })

@@ -5,7 +5,7 @@ ghost use Rattle.plane_core.specs.Views.{point_of};
 ghost use Rattle.exact_mesh.specs.Meshes.{vector_of};
 ghost use Rattle.piece_mesh.specs.Sizes.{IsWithinReach};
 
-use piece_mesh::printed;
+use piece_mesh::micrometres_of;
 use plane_core::Corner;
 use spec_space::Vector;
 use std::alloc::{AllocError, Global};
@@ -15,7 +15,7 @@ fn print_corner(corner: &Corner) -> [i128; 3]
     requires reach { IsWithinReach corner.now }
     ensures { vector_of result ≡ rounded_image world_frame 1000 (point_of corner.now) }
 {
-    let Vector { x, y, z } = printed(corner);
+    let Vector { x, y, z } = micrometres_of(corner);
     [x, y, z]
 }
 

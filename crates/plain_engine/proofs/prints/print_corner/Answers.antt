@@ -6,6 +6,6 @@ use Rattle.plain_engine.proofs.prints.print_corner.Goals as goal
 
 pub returns : goal.returns
 returns c =
-    let v = c.printed-x.result in
-    let small = subst (IsWithin (2 ^ 31)) (sym c.printed-x.ensures) (image_size c.args.corner.now c.requires.reach) in
-    (λ i. record { x = (arg v.x small.x tt).is i; y = (arg v.y small.y tt).is i; z = (arg v.z small.z tt).is i }) ∙ c.printed-x.ensures
+    let v = c.micrometres_of-x.result in
+    let small = subst (IsWithin (2 ^ 31)) (sym c.micrometres_of-x.ensures) (image_size c.args.corner.now c.requires.reach) in
+    (λ i. record { x = (arg v.x small.x tt).is i; y = (arg v.y small.y tt).is i; z = (arg v.z small.z tt).is i }) ∙ c.micrometres_of-x.ensures

@@ -3,7 +3,7 @@ use Rattle.std.proofs.lemmas.Int.{to_z-of_z}
 use mir.Syntax.{w128}
 use Rattle.integer_laws.proofs.Sizes.{fits_by_size}
 use Rattle.box_solids.proofs.SmallPlanes.{has_reduction}
-use Rattle.box_solids.proofs.planes.reduced.Goals as goal
+use Rattle.box_solids.proofs.planes.reduction_of.Goals as goal
 
 pub unreachable-requires : goal.unreachable-requires
 unreachable-requires c =

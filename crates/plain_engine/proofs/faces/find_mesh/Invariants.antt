@@ -3,7 +3,7 @@ use Rattle.box_solids.specs.Views.{tree_of}
 use Rattle.piece_mesh.specs.Builders.{corners_of, faces_of}
 use Rattle.plain_engine.specs.Parts.{IsPartMesh}
 use Rattle.plain_engine.proofs.Planes.{HasBelow}
-use Rattle.plain_engine.proofs.faces.exact.Given as goal
+use Rattle.plain_engine.proofs.faces.find_mesh.Given as goal
 
 abbrev pub invariant-loop-k : goal.invariant-loop-k
 invariant-loop-k l = record {

@@ -7,7 +7,7 @@ use Rattle.piece_mesh.specs.Builders.{corners_of, faces_of}
 use Rattle.plain_engine.specs.Parts.{IsPartMesh, IsWholeMesh, planes_at}
 use Rattle.plain_engine.proofs.Planes.{none_below, next_below, all_below}
 use Rattle.plain_engine.proofs.Printing.{no_part}
-use Rattle.plain_engine.proofs.faces.exact.Goals as goal
+use Rattle.plain_engine.proofs.faces.find_mesh.Goals as goal
 
 -- two facts of a result give a third
 if_both : {X E : Type 0} → (P Q R : X → Type 0) → ((x : X) → P x → Q x → R x) → (r : Result X E) → IfOk r P → IfOk r Q → IfOk r R

@@ -1,6 +1,6 @@
 use Rattle.integer_laws.proofs.Computed.{arg}
 use Rattle.piece_mesh.proofs.Scaled.{image_of, x_image, y_image, z_image}
-use Rattle.piece_mesh.proofs.micrometres.printed.Goals as goal
+use Rattle.piece_mesh.proofs.micrometres.micrometres_of.Goals as goal
 
 pub returns : goal.returns
 returns c =
