@@ -1,3 +1,5 @@
+ghost use Rattle.std.specs.Prelude.{◌≡◌};
+
 use crate::{Dir, Frame, LengthUnit, Map, PlaceFault, Prefix, Transform};
 use spec_space::{Plane, Vector};
 use std::test::Fail;
@@ -8,7 +10,9 @@ const UNIT: i128 = 1_000_000_000_000;
 
 const MOST: i64 = 10_000_000_000_000_000;
 
-fn vector(x: i128, y: i128, z: i128) -> Vector {
+fn vector(x: i128, y: i128, z: i128) -> Vector
+    ensures { result ≡ record { x = x; y = y; z = z } }
+{
     Vector { x, y, z }
 }
 
@@ -127,54 +131,55 @@ fn drops_shared_placements(rt: HostRuntime) -> Result<(), Fail> {
 }
 
 #[test]
-fn finds_maps(rt: HostRuntime) -> Result<(), Fail> {
-    let x = Dir {
-        v: vector(ONE, 0, 0),
-    };
-    let y = Dir {
-        v: vector(0, -ONE, 0),
-    };
-    let z = Dir {
-        v: vector(0, 0, ONE),
-    };
-    let mirrored = Map::of_operator([0, 0, 0], [Some(x), Some(y), Some(z)], [UNIT, UNIT, UNIT])?;
+fn mirrors_by_the_second_axis(rt: HostRuntime) -> Result<(), Fail> {
+    let axes = [
+        Some(Dir::of_triple([UNIT, 0, 0])?),
+        Some(Dir::of_triple([0, -UNIT, 0])?),
+        Some(Dir::of_triple([0, 0, UNIT])?),
+    ];
+    let mirrored = Map::of_operator([0, 0, 0], axes, [UNIT, UNIT, UNIT])?;
     let rows = [[ONE, 0, 0], [0, -ONE, 0], [0, 0, ONE]];
     assert_eq!(rt; mirrored.transform, by_rows(rows, [0, 0, 0]));
-    assert_eq!(rt;
-        mirrored.corner(1000, [2_000_000_000, 2_000_000_000, 0]),
-        [2000, -2000, 0]
-    );
-    let none = [None, None, None];
-    let great = Map::of_operator([0, 0, 0], none, [1000 * UNIT, 1000 * UNIT, 1000 * UNIT])?;
-    let plain = Map::of_frame(&Frame::identity());
-    assert_eq!(rt; great.then(&plain)?, great);
-    let beyond = Map::of_operator([0, 0, 0], none, [UNIT + 1000, UNIT, UNIT])?;
+    let corner = mirrored.corner(1000, [2_000_000_000, 2_000_000_000, 0]);
+    assert_eq!(rt; corner, [2000, -2000, 0]);
+    Ok(())
+}
+
+/// The map that stretches each axis by a scale.
+fn stretching(scale: i128) -> Result<Map, PlaceFault> {
+    Map::of_operator([0, 0, 0], [None, None, None], [scale, scale, scale])
+}
+
+#[test]
+fn refuses_maps(rt: HostRuntime) -> Result<(), Fail> {
+    let great = stretching(1000 * UNIT)?;
+    let plain = stretching(UNIT)?;
+    let beyond = stretching(UNIT + 1000)?;
+    let far = Map::of_frame(&Frame::of_axes([0, 0, MOST], None, None)?);
+    let kept = great.then(&plain)?;
+    assert!(rt; kept == great);
     assert_eq!(rt;
         great.then(&beyond).err(),
         Some(PlaceFault::ScaleOutOfRange)
     );
-    let far = Map::of_frame(&Frame::of_axes([0, 0, MOST], None, None)?);
     assert_eq!(rt; great.then(&far).err(), Some(PlaceFault::OffsetTooLarge));
-    for (scale, fault) in [
-        (UNIT / 1000, None),
-        (UNIT / 1000 - 1, Some(PlaceFault::ScaleOutOfRange)),
-        (1000 * UNIT, None),
-        (1000 * UNIT + 1, Some(PlaceFault::ScaleOutOfRange)),
-    ] {
-        assert_eq!(rt;
-            Map::of_operator([0, 0, 0], none, [UNIT, UNIT, scale]).err(),
-            fault
-        );
-    }
-    let parallel = [Some(z), None, Some(z)];
+    assert_eq!(rt; stretching(UNIT / 1000).err(), None);
     assert_eq!(rt;
-        Map::of_operator([0, 0, 0], parallel, [0, 0, 0]).err(),
+        stretching(UNIT / 1000 - 1).err(),
         Some(PlaceFault::ScaleOutOfRange)
     );
     assert_eq!(rt;
-        Map::of_operator([0, 0, 0], parallel, [UNIT, UNIT, UNIT]).err(),
-        Some(PlaceFault::Parallel)
+        stretching(1000 * UNIT + 1).err(),
+        Some(PlaceFault::ScaleOutOfRange)
     );
+    let up = Dir::of_triple([0, 0, 1])?;
+    for (scale, fault) in [
+        (0, PlaceFault::ScaleOutOfRange),
+        (UNIT, PlaceFault::Parallel),
+    ] {
+        let map = Map::of_operator([0, 0, 0], [Some(up), None, Some(up)], [scale, UNIT, UNIT]);
+        assert_eq!(rt; map.err(), Some(fault));
+    }
     Ok(())
 }
 
@@ -194,7 +199,12 @@ fn finds_half_spaces(rt: HostRuntime) -> Result<(), Fail> {
     assert!(rt; half.in_front);
     assert!(rt; !Map::of_frame(&frame).half_space(1000, true)?.in_front);
     let flat = Map {
-        transform: by_rows([[ONE, ONE, 0], [0, 0, 0], [0, 0, ONE]], [0, 0, 0]),
+        transform: Transform {
+            x: vector(ONE, ONE, 0),
+            y: vector(0, 0, 0),
+            z: vector(0, 0, ONE),
+            off: vector(0, 0, 0),
+        },
     };
     assert_eq!(rt;
         flat.half_space(1, true).err(),
