@@ -74,11 +74,7 @@ fn fault_answer(alloc: Global, fault: FileFault) -> Answer
 }
 
 /// Builds the page of the bytes of a file.
-fn convert_file(
-    alloc: Global,
-    source: &[u8],
-    page: &mut Vec<u8>,
-) -> Result<Tally, ConvertFault>
+fn convert_file(alloc: Global, source: &[u8], page: &mut Vec<u8>) -> Result<Tally, ConvertFault>
     requires small { length source.now ≤ most_bytes }
     requires empty { page.old.items ≡ [] }
     ensures page { IfOk result (λ tally. (items : List Item) × IsPageOf source.now page.new.items items × IsTallyOf tally items) }

@@ -44,7 +44,12 @@ fn put_worded(text: &mut Vec<u8>, word: &[u8], number: u64) -> Result<(), AllocE
 }
 
 /// Appends the fault of a number that is given twice.
-fn put_duplicate(text: &mut Vec<u8>, number: u64, first: usize, second: usize) -> Result<(), AllocError>
+fn put_duplicate(
+    text: &mut Vec<u8>,
+    number: u64,
+    first: usize,
+    second: usize,
+) -> Result<(), AllocError>
     ensures { OnOk result (text.new.items ≡ text.old.items ++ fault_text (FileFault.DuplicateNumber number first second)) }
 {
     put_worded(text, b"DuplicateNumber ", number)?;

@@ -12,7 +12,8 @@ const HEAD: &[u8] = b"ISO-10303-21;HEADER;FILE_SCHEMA(('IFC4'));ENDSEC;DATA;
 
 const PROJECT: &[u8] = b"#6=IFCPROJECT('1',$,'p',$,$,$,$,$,#2);";
 
-const WALL: &[u8] = b"#11=IFCSHAPEREPRESENTATION($,'Body',$,(#10));#12=IFCPRODUCTDEFINITIONSHAPE($,$,(#11));
+const WALL: &[u8] =
+    b"#11=IFCSHAPEREPRESENTATION($,'Body',$,(#10));#12=IFCPRODUCTDEFINITIONSHAPE($,$,(#11));
 #13=IFCWALL('2',$,'w',$,$,#7,#12,$,$);";
 
 const END: &[u8] = b"ENDSEC;END-ISO-10303-21;";
@@ -111,8 +112,12 @@ fn names_each_element(rt: HostRuntime) -> Result<(), Fail> {
     let left = convert(rt.alloc(), &[HEAD, PROJECT, WALL, more, END])?;
     assert_eq!(rt; left.status, Status::SomeRefused);
     assert!(rt; left.out.held() == left.page.as_slice());
-    assert!(rt; left.rep.held() == b"elements 4 converted 2 skipped 1 refused 1 corners 16 faces 16
-#refused 15 E4 Dangling #15 99\n".as_slice());
+    assert!(rt;
+        left.rep.held()
+            == b"elements 4 converted 2 skipped 1 refused 1 corners 16 faces 16
+#refused 15 E4 Dangling #15 99\n"
+                .as_slice()
+    );
     for text in [
         b"# ifcexact 1\n# grid 1000\no 13\n#frame 1000000000 0 0".as_slice(),
         b"\n#vol6 6000000000000000000\n#skipped 14\n#refused 15 E4 Dangling #15 99\no 16\n".as_slice(),
@@ -131,7 +136,12 @@ fn refuses_files_in_order(rt: HostRuntime) -> Result<(), Fail> {
     let twice: &[u8] = b"#9=IFCWALL('2',$,'w',$,$,#7,$,$,$);";
     let cut = convert(rt.alloc(), &[HEAD, b"#13=IFCW"])?;
     let at = HEAD.len() + 8;
-    assert!(rt; is_refused(&cut, format!(in rt.alloc(); "refused Syntax at {at}\n")?.as_bytes()));
+    assert!(rt;
+        is_refused(
+            &cut,
+            format!(in rt.alloc(); "refused Syntax at {at}\n")?.as_bytes()
+        )
+    );
     // The number stands twice, and no project stands: the first is named.
     let repeated = convert(rt.alloc(), &[HEAD, twice, END])?;
     let second = HEAD.len();
@@ -142,7 +152,11 @@ fn refuses_files_in_order(rt: HostRuntime) -> Result<(), Fail> {
     assert!(rt; is_refused(&homeless, b"refused NoProject\n"));
     let unmeasured = convert(
         rt.alloc(),
-        &[HEAD, b"#5=IFCUNITASSIGNMENT(());#6=IFCPROJECT('1',$,'p',$,$,$,$,$,#5);", END],
+        &[
+            HEAD,
+            b"#5=IFCUNITASSIGNMENT(());#6=IFCPROJECT('1',$,'p',$,$,$,$,$,#5);",
+            END,
+        ],
     )?;
     assert!(rt; is_refused(&unmeasured, b"refused NoLengthUnit\n"));
     let foreign = convert(
@@ -185,7 +199,13 @@ fn answers_faults_of_the_outside(rt: HostRuntime) -> Result<(), Fail> {
     assert!(rt; left.out.held() == left.page.as_slice());
     assert!(rt; left.rep.held() == b"elements ".as_slice());
 
-    let left = run(rt.alloc(), &["convert"], &mut Broken { faults: 0 }, 4000, 200)?;
+    let left = run(
+        rt.alloc(),
+        &["convert"],
+        &mut Broken { faults: 0 },
+        4000,
+        200,
+    )?;
     assert_eq!(rt; left.status.code(), 3);
     assert!(rt; left.rep.held() == b"read fault\n".as_slice());
     Ok(())

@@ -6,8 +6,8 @@ ghost use Rattle.spec_page.specs.Page.{page_text};
 ghost use Rattle.spec_outcome.specs.Outcomes.{AreItemsOf};
 ghost use Rattle.ix_page.specs.Counts.{IsTallyOf, AddsElement, HasElements};
 
-use crate::tally::Tally;
 use crate::element::{made_element, put_item};
+use crate::tally::Tally;
 use entity_reader::elements;
 use obj_text::{write_end, write_head};
 use std::alloc::{AllocError, Global};
@@ -53,11 +53,7 @@ fn put_elements(
 /// # Errors
 ///
 /// Want of memory; then part of the page may stand.
-pub fn write_page(
-    alloc: Global,
-    table: &Table<'_>,
-    page: &mut Vec<u8>,
-) -> Result<Tally, AllocError>
+pub fn write_page(alloc: Global, table: &Table<'_>, page: &mut Vec<u8>) -> Result<Tally, AllocError>
     requires { page.old.items ≡ [] }
     ensures { IfOk result (λ tally. (items : List Item) × AreItemsOf 1000 table.now (elements table.now) items
         × (page.new.items ≡ page_text 1000 items) × IsTallyOf tally items) }

@@ -60,7 +60,12 @@ fn put_head(page: &mut Vec<u8>, number: u64, frame: &Frame) -> Result<(), AllocE
 }
 
 /// Appends the corners, the faces and the volume of a mesh.
-fn put_mesh(page: &mut Vec<u8>, number: u64, mesh: &PrintedMesh, before: u128) -> Result<(), AllocError>
+fn put_mesh(
+    page: &mut Vec<u8>,
+    number: u64,
+    mesh: &PrintedMesh,
+    before: u128,
+) -> Result<(), AllocError>
     requires { before < 2 ^ 127 }
     ensures { OnOk result (page.new.items ≡ page.old.items ++ element_body before (element_of number mesh.now)) }
 {

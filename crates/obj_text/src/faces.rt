@@ -108,7 +108,11 @@ fn put_face(page: &mut Vec<u8>, before: u128, face: &MeshFace) -> Result<(), All
     put_indices(page, before, &face.corners)
 }
 
-pub(crate) fn put_faces(page: &mut Vec<u8>, before: u128, faces: &[MeshFace]) -> Result<(), AllocError>
+pub(crate) fn put_faces(
+    page: &mut Vec<u8>,
+    before: u128,
+    faces: &[MeshFace],
+) -> Result<(), AllocError>
     requires { before < 2 ^ 127 }
     ensures { OnOk result (page.new.items ≡ page.old.items ++ flat_map (λ f. face_lines before (face_of f)) faces.now) }
 {

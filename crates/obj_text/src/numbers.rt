@@ -81,7 +81,11 @@ pub(crate) fn put_spaced_metres(page: &mut Vec<u8>, micro: i128) -> Result<(), A
 }
 
 /// Appends a whole number behind a sign, on a line.
-pub(crate) fn put_number_line(page: &mut Vec<u8>, sign: &[u8], number: u64) -> Result<(), AllocError>
+pub(crate) fn put_number_line(
+    page: &mut Vec<u8>,
+    sign: &[u8],
+    number: u64,
+) -> Result<(), AllocError>
     ensures { OnOk result (page.new.items ≡ page.old.items ++ number_line sign.now number) }
 {
     let mut buffer = itoa::Buffer::new();

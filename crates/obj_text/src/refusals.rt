@@ -131,11 +131,7 @@ pub fn write_skipped(page: &mut Vec<u8>, number: u64) -> Result<(), AllocError>
 /// # Errors
 ///
 /// Want of memory.
-pub fn write_refused(
-    page: &mut Vec<u8>,
-    number: u64,
-    refusal: &Refusal,
-) -> Result<(), AllocError>
+pub fn write_refused(page: &mut Vec<u8>, number: u64, refusal: &Refusal) -> Result<(), AllocError>
     ensures { OnOk result (page.new.items ≡ page.old.items ++ refused_line number refusal.now) }
 {
     page.extend_from_slice(b"#refused ")?;

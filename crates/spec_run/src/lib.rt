@@ -12,10 +12,14 @@ pub enum FileFault {
     /// The tokens before this place begin some file, and with what stands here none does; where
     /// the text ends too early, the place is its length (ISO 10303-21).
     #[error("not a file of ISO 10303-21, at byte {at}")]
-    Syntax { at: usize },
+    Syntax {
+        at: usize,
+    },
     /// The opening parenthesis at this place is the 33rd that stands open.
     #[error("more than 32 parentheses stand open, at byte {at}")]
-    Nested { at: usize },
+    Nested {
+        at: usize,
+    },
     /// No `FILE_SCHEMA` of the header names a schema that is read.
     #[error("no schema that is read")]
     Schema,
