@@ -1,5 +1,5 @@
 -- What is found in the bytes that were read is found in those that the source had, and it is the one thing that is due.
-use Rattle.std.proofs.Common.{◌≡◌, ℕ, List, [], true, false, Option, Some, None, IfSome, ◌⊎◌, inl, inr, refl, sym, ◌∙◌, subst}
+use Rattle.std.proofs.Common.{◌≡◌, ℕ, List, [], true, false, Option, Some, None, IfSome, inl, inr, refl, sym, ◌∙◌, subst}
 use Rattle.std.proofs.lemmas.Bool.{true≢false}
 use Rattle.spec_outside.specs.Causes.{IsEmptied}
 use Rattle.spec_outside.specs.Ends.{Known, known}
@@ -10,11 +10,9 @@ use Rattle.spec_run.specs.Words.{names_convert}
 use Rattle.spec_run.specs.Inputs.{IsInput, IsFaultOf}
 use Rattle.spec_run.specs.Findings.{Finding, Page, Refused, ReadFault, NoMemory, Usage, IsPageOf, IsFoundIn, IsFound, IsOrWants, IsPageOrWants}
 use Rattle.spec_run.specs.Reports.{report_of}
-use Rattle.ix_page.specs.Counts.{IsTallyOf}
 use Rattle.ix_page.specs.declared.tally.Tally.{Tally}
 use Rattle.ix_convert.specs.Answers.{text_of, Tells, TellsOrWants, IsFoundAt}
 use Rattle.ix_convert.specs.Runs.{IsRun}
-use Rattle.ix_convert.specs.Statuses.{status_of, has_page}
 use Rattle.ix_convert.specs.Deliveries.{IsDelivered}
 use Rattle.ix_convert.specs.declared.answer.Answer.{Answer}
 use Rattle.ix_convert.specs.declared.status.Status.{Status}

@@ -1,6 +1,5 @@
 -- An input is one thing: a file that is converted, by its one DATA section, or one that is refused for one reason.
-use Rattle.std.proofs.Common.{◌≡◌, ℕ, ◌<◌, ◌≤◌, List, length, Result, Ok, Err, ◌⊎◌, inl, inr, refl, sym, ◌∙◌, ap, subst, arith}
-use Rattle.spec_step.specs.declared.tree.Instance.{Instance}
+use Rattle.std.proofs.Common.{◌≡◌, ℕ, ◌<◌, ◌≤◌, List, length, Result, Ok, Err, refl, sym, ◌∙◌, ap, arith}
 use Rattle.spec_step.specs.declared.fault.StepFault.{StepFault}
 use Rattle.spec_step.specs.declared.fault.StepFault.TheVariants as step
 use Rattle.spec_table.specs.Sections.{DataSection}

@@ -1,5 +1,5 @@
 -- What the sinks hold after the writing.
-use Rattle.std.specs.Prelude.{◌≡◌, ℕ, Bool, true, List, [], Option, ◌⊎◌, if◌then◌else◌}
+use Rattle.std.specs.Prelude.{◌≡◌, ℕ, true, List, [], ◌⊎◌, if◌then◌else◌}
 use Rattle.std.specs.Io.KnownBytes.{Appends}
 use Rattle.spec_outside.specs.Causes.{Rose, AppendsFront}
 use Rattle.spec_outside.specs.Ends.{Known}

@@ -1,5 +1,5 @@
 -- A whole run: what it found, why, and how it was written.
-use Rattle.std.specs.Prelude.{◌≡◌, ℕ, true, List, IfSome, ◌⊎◌}
+use Rattle.std.specs.Prelude.{◌≡◌, ℕ, true, List, IfSome}
 use Rattle.spec_outside.specs.Ends.{Known}
 use Rattle.spec_table.specs.Sections.{DataSection}
 use Rattle.spec_run.specs.declared.FileFault.{FileFault}

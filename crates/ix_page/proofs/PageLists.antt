@@ -1,7 +1,6 @@
 -- Lists of items that grow by one.
-use Rattle.std.proofs.Common.{◌≡◌, ℕ, ◌+◌, ◌<◌, ◌≤◌, ◌*◌, List, [], ◌∷◌, ◌++◌, length, get_or, take, Bool, refl, sym, ap, ◌∙◌, append_assoc, append-nil, arith, ℤ, min, Ok, length-append, zero-add, add_assoc, add-zero, subst}
+use Rattle.std.proofs.Common.{◌≡◌, ℕ, ◌+◌, ◌<◌, List, [], ◌∷◌, ◌++◌, length, get_or, take, Bool, refl, sym, ap, ◌∙◌, append_assoc, append-nil, arith, ℤ, min, Ok, length-append, zero-add, add_assoc, add-zero, subst}
 use Rattle.std.specs.Prelude.{sum_by, count_by, if◌then◌else◌}
-use Rattle.std.specs.List.{flat_map}
 use Rattle.plane_core.specs.declared.numbers.Corner.{Corner}
 use Rattle.plain_engine.specs.Prints.{page_corners}
 use Rattle.spec_table.specs.Sections.{DataSection}

@@ -1,5 +1,5 @@
 -- What a run finds before it writes, each with its cause.
-use Rattle.std.specs.Prelude.{◌≡◌, ◌≢◌, ℕ, true, false, List, [], IfSome, ◌⊎◌}
+use Rattle.std.specs.Prelude.{◌≡◌, ℕ, true, false, List, [], IfSome, ◌⊎◌}
 use Rattle.spec_outside.specs.Causes.{Rose, IsEmptied}
 use Rattle.spec_outside.specs.Ends.{Known}
 use Rattle.spec_table.specs.Sections.{DataSection}
