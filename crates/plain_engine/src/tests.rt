@@ -1,4 +1,5 @@
-ghost use Rattle.std.specs.Prelude.{◌≡◌, IfSome, ForSome};
+ghost use Rattle.std.specs.Prelude.{◌≡◌, IfSome};
+ghost use Rattle.std.specs.Option.{ForSome};
 ghost use Rattle.box_solids.specs.Trees.{box_count};
 ghost use Rattle.box_solids.specs.Views.{tree_of};
 
