@@ -77,6 +77,9 @@ fn convert(alloc: Global, parts: &[&[u8]]) -> Result<Left, AllocError> {
 }
 
 fn has(page: &[u8], text: &[u8]) -> bool {
+    if text.is_empty() {
+        return true;
+    }
     page.windows(text.len()).any(|part| part == text)
 }
 
