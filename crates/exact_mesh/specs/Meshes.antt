@@ -12,12 +12,12 @@ abbrev pub number_at : List ℤ → ℕ → ℤ
 number_at ns i = slice_index_or ns i (pos 0)
 
 -- the plane of four numbers
-abbrev pub plane_of : List ℤ → Plane
-plane_of ns = record { a = number_at ns 0; b = number_at ns 1; c = number_at ns 2; d = number_at ns 3 }
+abbrev pub numbered_plane : List ℤ → Plane
+numbered_plane ns = record { a = number_at ns 0; b = number_at ns 1; c = number_at ns 2; d = number_at ns 3 }
 
 -- the printed face
 abbrev pub face_of : MeshFace → Face
-face_of f = record { plane = plane_of f.plane; edges = map plane_of f.edges.items; corners = f.corners.items }
+face_of f = record { plane = numbered_plane f.plane; edges = map numbered_plane f.edges.items; corners = f.corners.items }
 
 -- the vector of three numbers
 abbrev pub vector_of : List ℤ → Vector

@@ -8,12 +8,12 @@ use crate::faces::{put_corners, put_faces};
 use crate::lines::put_frame;
 use crate::numbers::{put_number_line, put_spaced};
 use plain_engine::PrintedMesh;
-use spec_page::Frame;
+use spec_place::Transform;
 use spec_space::Vector;
 use std::alloc::AllocError;
 
 /// The frame of the world.
-const WORLD: Frame = Frame {
+const WORLD: Transform = Transform {
     x: Vector {
         x: 1_000_000_000,
         y: 0,
@@ -52,7 +52,7 @@ fn put_sixfold(page: &mut Vec<u8>, six: i128) -> Result<(), AllocError>
 }
 
 /// Appends the first lines of an element's block.
-fn put_head(page: &mut Vec<u8>, number: u64, frame: &Frame) -> Result<(), AllocError>
+fn put_head(page: &mut Vec<u8>, number: u64, frame: &Transform) -> Result<(), AllocError>
     ensures { OnOk result (page.new.items ≡ page.old.items ++ (number_line (codes "o ") number ++ frame_line frame.now)) }
 {
     put_number_line(page, b"o ", number)?;

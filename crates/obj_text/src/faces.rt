@@ -2,7 +2,7 @@ ghost use Rattle.std.specs.Prelude.{◌≡◌, ◌<◌, ◌^◌, ◌++◌, [], �
 ghost use Rattle.std.specs.List.{flat_map};
 ghost use Rattle.spec_page.specs.Lines.{plane_line, corner_lines, index_text, indices_line, face_lines};
 ghost use Rattle.plane_core.specs.Views.{point_of};
-ghost use Rattle.exact_mesh.specs.Meshes.{plane_of, vector_of, face_of};
+ghost use Rattle.exact_mesh.specs.Meshes.{numbered_plane, vector_of, face_of};
 ghost use Rattle.plain_engine.specs.Prints.{page_corners};
 
 use crate::lines::{put_corner, put_plane};
@@ -13,7 +13,7 @@ use spec_space::{Plane, Point, Vector};
 use std::alloc::AllocError;
 
 fn plane(numbers: &[i128; 4]) -> Plane
-    ensures { result ≡ plane_of numbers.now }
+    ensures { result ≡ numbered_plane numbers.now }
 {
     let [a, b, c, d] = *numbers;
     Plane { a, b, c, d }
@@ -62,7 +62,7 @@ pub(crate) fn put_corners(
 }
 
 fn put_edges(page: &mut Vec<u8>, edges: &[[i128; 4]]) -> Result<(), AllocError>
-    ensures { OnOk result (page.new.items ≡ page.old.items ++ flat_map (λ e. plane_line (codes "#e") (plane_of e)) edges.now) }
+    ensures { OnOk result (page.new.items ≡ page.old.items ++ flat_map (λ e. plane_line (codes "#e") (numbered_plane e)) edges.now) }
 {
     for edge in edges {
         put_plane(page, b"#e", &plane(edge))?;

@@ -2,7 +2,8 @@ ghost use Rattle.std.specs.Prelude.{◌≡◌, ◌++◌, OnOk};
 ghost use Rattle.spec_page.specs.Lines.{plane_line, frame_line, exact_line, printed_line, corner_lines};
 
 use crate::numbers::{put_spaced, put_spaced_metres, put_three, put_vector};
-use spec_page::{Corner, Frame};
+use spec_page::Corner;
+use spec_place::Transform;
 use spec_space::{Plane, Point, Vector};
 use std::alloc::AllocError;
 
@@ -17,7 +18,7 @@ pub(crate) fn put_plane(page: &mut Vec<u8>, sign: &[u8], plane: &Plane) -> Resul
     Ok(())
 }
 
-pub(crate) fn put_frame(page: &mut Vec<u8>, frame: &Frame) -> Result<(), AllocError>
+pub(crate) fn put_frame(page: &mut Vec<u8>, frame: &Transform) -> Result<(), AllocError>
     ensures { OnOk result (page.new.items ≡ page.old.items ++ frame_line frame.now) }
 {
     page.extend_from_slice(b"#frame")?;

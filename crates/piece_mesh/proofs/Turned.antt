@@ -13,7 +13,7 @@ use Rattle.spec_page.specs.Faces.{rotated}
 use Rattle.plane_core.specs.declared.numbers.Plane.{Plane as BookPlane}
 use Rattle.plane_core.specs.declared.numbers.Corner.{Corner}
 use Rattle.plane_core.specs.Views.{plane_of}
-use Rattle.exact_mesh.specs.Meshes.{plane_of as numbered_plane}
+use Rattle.exact_mesh.specs.Meshes.{numbered_plane}
 use Rattle.poly_frag.specs.Frags.{numbered, kept_side}
 use Rattle.poly_frag.specs.declared.frag.Edge.{Edge}
 use Rattle.piece_mesh.specs.Builders.{AreUsed}

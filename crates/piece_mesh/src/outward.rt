@@ -1,7 +1,7 @@
 ghost use Rattle.std.specs.Prelude.{◌≡◌, ◌<◌, length, map, not, All, IfOk, reverse};
 ghost use Rattle.spec_page.specs.Faces.{rotated};
 ghost use Rattle.plane_core.specs.Views.{plane_of};
-ghost use Rattle.exact_mesh.specs.Meshes.{plane_of as numbered_plane};
+ghost use Rattle.exact_mesh.specs.Meshes.{numbered_plane};
 ghost use Rattle.poly_frag.specs.Frags.{kept_side};
 ghost use Rattle.poly_frag.specs.Cycles.{IsCycle, AreCorners};
 ghost use Rattle.piece_mesh.specs.Pieces.{outer_side, edges_seen, HasCornersSeen};

@@ -2,7 +2,7 @@
 use Rattle.std.specs.Prelude.{ℕ, ℤ, pos, List, Option}
 use Rattle.spec_space.specs.declared.Plane.{Plane}
 use Rattle.spec_page.specs.declared.Corner.{Corner}
-use Rattle.spec_page.specs.declared.Frame.{Frame}
+use Rattle.spec_place.specs.declared.transform.Transform.{Transform}
 
 -- a face: its plane with the normal outwards, for each edge a plane with the normal out of the face, and the places of
 -- its corners among the element's, from 0; edge i goes from corner i to the next, and the last to the first
@@ -14,13 +14,13 @@ pub record Face : Type 0 where
 -- an element of a page; the volume is sixfold, in cubic micrometres, and None where it passes 128 bits
 pub record Element : Type 0 where
   pub number : ℕ
-  pub frame : Frame
+  pub frame : Transform
   pub corners : List Corner
   pub faces : List Face
   pub six : Option ℤ
 
 -- the frame of the world
-abbrev pub world_frame : Frame
+abbrev pub world_frame : Transform
 world_frame = record {
   x = record { x = pos 1000000000; y = pos 0; z = pos 0 };
   y = record { x = pos 0; y = pos 1000000000; z = pos 0 };

@@ -7,7 +7,7 @@ use Rattle.spec_space.specs.declared.Plane.{Plane}
 use Rattle.spec_space.specs.declared.Point.{Point}
 use Rattle.spec_space.specs.declared.Vector.{Vector}
 use Rattle.spec_page.specs.declared.Corner.{Corner}
-use Rattle.spec_page.specs.declared.Frame.{Frame}
+use Rattle.spec_place.specs.declared.transform.Transform.{Transform}
 use Rattle.spec_page.specs.Element.{Face, Element}
 
 -- a whole number behind a space
@@ -40,7 +40,7 @@ abbrev pub plane_line : List ℕ → Plane → List ℕ
 plane_line sign h = sign ++ spaced_three h.a h.b h.c ++ spaced h.d ++ 10 ∷ []
 
 -- the frame's matrix by rows in units of 10^-9, and its offset in nanometres
-abbrev pub frame_line : Frame → List ℕ
+abbrev pub frame_line : Transform → List ℕ
 frame_line f = codes "#frame" ++ spaced_vector f.x ++ spaced_vector f.y ++ spaced_vector f.z ++ spaced_vector f.off ++ 10 ∷ []
 
 -- the exact corner in grid steps

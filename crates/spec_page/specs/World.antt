@@ -4,7 +4,7 @@ use Rattle.spec_num.specs.Rounding.{round_of}
 use Rattle.spec_space.specs.declared.Point.{Point}
 use Rattle.spec_space.specs.declared.Vector.{Vector}
 use Rattle.spec_space.specs.Points.{minus, cross, dot}
-use Rattle.spec_page.specs.declared.Frame.{Frame}
+use Rattle.spec_place.specs.declared.transform.Transform.{Transform}
 use Rattle.spec_page.specs.Element.{Element}
 use Rattle.spec_page.specs.Faces.{corner_at}
 
@@ -17,7 +17,7 @@ abbrev pub image_below : Point → ℤ
 image_below p = pos (10 ^ 9) *ℤ p.w
 
 -- the exact image, rounded to whole micrometres
-abbrev pub rounded_image : Frame → ℕ → Point → Vector
+abbrev pub rounded_image : Transform → ℕ → Point → Vector
 rounded_image f grid p = record {
   x = round_of (image_above f.x f.off.x grid p) (image_below p);
   y = round_of (image_above f.y f.off.y grid p) (image_below p);

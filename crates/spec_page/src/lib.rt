@@ -10,12 +10,3 @@ pub struct Corner {
     pub exact: Point,
     pub printed: Vector,
 }
-
-/// A frame: the rows of its matrix in units of 10^-9, and its offset in nanometres.
-#[derive(Clone, Copy, Debug, PartialEq, Eq)]
-pub struct Frame {
-    pub x: Vector,
-    pub y: Vector,
-    pub z: Vector,
-    pub off: Vector,
-}

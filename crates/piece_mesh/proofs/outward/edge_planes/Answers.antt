@@ -1,5 +1,5 @@
 use Rattle.std.proofs.Common.{◌≡◌, ◌+◌, sym, subst, map, take, false}
-use Rattle.exact_mesh.specs.Meshes.{plane_of as numbered_plane}
+use Rattle.exact_mesh.specs.Meshes.{numbered_plane}
 use Rattle.piece_mesh.specs.Pieces.{outer_side}
 use Rattle.poly_frag.specs.declared.frag.Edge.{Edge}
 use Rattle.piece_mesh.proofs.Turned.{next_plane}

@@ -1,5 +1,5 @@
 use Rattle.std.proofs.Common.{◌≡◌, map, take}
-use Rattle.exact_mesh.specs.Meshes.{plane_of as numbered_plane}
+use Rattle.exact_mesh.specs.Meshes.{numbered_plane}
 use Rattle.piece_mesh.specs.Pieces.{outer_side}
 use Rattle.piece_mesh.proofs.outward.edge_planes.Given as goal
 

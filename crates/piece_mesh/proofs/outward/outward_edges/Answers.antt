@@ -1,5 +1,5 @@
 use Rattle.std.proofs.Common.{ap, map, ◌∙◌}
-use Rattle.exact_mesh.specs.Meshes.{plane_of as numbered_plane}
+use Rattle.exact_mesh.specs.Meshes.{numbered_plane}
 use Rattle.piece_mesh.proofs.Turned.{planes_seen_front, planes_seen_back}
 use Rattle.piece_mesh.proofs.outward.outward_edges.Goals as goal
 use Rattle.piece_mesh.proofs.outward.outward_edges.Goals.{then-not-front_out, else-not-front_out}
