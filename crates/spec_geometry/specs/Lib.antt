@@ -1,0 +1,10 @@
+pub mod Files
+pub mod Units
+pub mod Points
+pub mod Axes
+pub mod Curves
+pub mod Profiles
+pub mod Breps
+pub mod Solids
+pub mod Placements
+pub mod Elements
