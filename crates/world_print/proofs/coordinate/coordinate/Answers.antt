@@ -20,6 +20,6 @@ returns c =
     let answer : FitsSigned w128 c.rounded.result = record { sfits = c.rounded.type_inv } in
     to_z-of_z w128 c.rounded.result answer ∙ c.rounded.ensures
     ∙ ap₂ round_of
-        (ap₂ (λ a b. a +ℤ b) (ap₂ (λ a b. a *ℤ b) (whole.is ∙ ap (λ o. dot row u *ℤ pos c.args.step +ℤ o *ℤ pos 1000000) (arg c.args.off c.requires.off tt).is) weight.is) rest.is
-        ∙ image_by_parts row.x row.y row.z c.args.off (pos c.args.step) p.w u.x u.y u.z r.x r.y r.z p.x p.y p.z c.requires.split.x c.requires.split.y c.requires.split.z)
-        (ap (λ n. pos 1000000000 *ℤ n) weight.is)
+    (ap₂ (λ a b. a +ℤ b) (ap₂ (λ a b. a *ℤ b) (whole.is ∙ ap (λ o. dot row u *ℤ pos c.args.step +ℤ o *ℤ pos 1000000) (arg c.args.off c.requires.off tt).is) weight.is) rest.is
+    ∙ image_by_parts row.x row.y row.z c.args.off (pos c.args.step) p.w u.x u.y u.z r.x r.y r.z p.x p.y p.z c.requires.split.x c.requires.split.y c.requires.split.z)
+    (ap (λ n. pos 1000000000 *ℤ n) weight.is)
