@@ -52,11 +52,11 @@ abbrev pub hole : ℕ → List ℕ
 hole i = hole_at (10100 + 10 * i) (pos (1000 * (i % 15)) -ℤ pos 7250) (pos (1000 * (i / 15)) -ℤ pos 4750)
 
 -- the first so many walls, and holes
-unfoldable pub walls : ℕ → List ℕ
+abbrev pub walls : ℕ → List ℕ
 walls zero = []
 walls (suc n) = walls n ++ wall n
 
-unfoldable pub holes : ℕ → List ℕ
+abbrev pub holes : ℕ → List ℕ
 holes zero = []
 holes (suc n) = holes n ++ hole n
 

@@ -5,12 +5,13 @@ use crate::lines::{
     put_axes, put_extrusion, put_opening, put_placement, put_placement_in, put_point,
     put_rectangle, put_representation, put_shape, put_slab_line, put_voids, put_wall_line,
 };
+use crate::numbers::Place;
 use std::alloc::AllocError;
 
 /// Appends a placement at a point in the world.
-fn put_place(page: &mut Vec<u8>, number: u32, place: (i64, i64, i64)) -> Result<(), AllocError>
+fn put_place(page: &mut Vec<u8>, number: u32, place: &Place) -> Result<(), AllocError>
     requires { number ≤ 20000 }
-    ensures { OnOk result (page.new.items ≡ page.old.items ++ placement number place.0 place.1 place.2) }
+    ensures { OnOk result (page.new.items ≡ page.old.items ++ placement number place.now.x place.now.y place.now.z) }
 {
     put_point(page, number, place)?;
     put_axes(page, number + 1, number)?;
@@ -22,10 +23,10 @@ fn put_place_in(
     page: &mut Vec<u8>,
     parent: u32,
     number: u32,
-    place: (i64, i64, i64),
+    place: &Place,
 ) -> Result<(), AllocError>
     requires { number ≤ 20000 }
-    ensures { OnOk result (page.new.items ≡ page.old.items ++ placement_in parent number place.0 place.1 place.2) }
+    ensures { OnOk result (page.new.items ≡ page.old.items ++ placement_in parent number place.now.x place.now.y place.now.z) }
 {
     put_point(page, number, place)?;
     put_axes(page, number + 1, number)?;
@@ -54,7 +55,7 @@ fn put_plain_wall(page: &mut Vec<u8>, number: u32, x: i64) -> Result<(), AllocEr
     requires { number ≤ 10000 }
     ensures { OnOk result (page.new.items ≡ page.old.items ++ plain_wall number x) }
 {
-    put_place(page, number, (x, 0, 0))?;
+    put_place(page, number, &Place { x, y: 0, z: 0 })?;
     put_block(page, number + 3, 5000, 200, 3000)?;
     put_wall_line(page, number + 7, number + 2, number + 6)
 }
@@ -64,7 +65,7 @@ fn put_window(page: &mut Vec<u8>, number: u32, width: u32) -> Result<(), AllocEr
     requires { number ≤ 10000 }
     ensures { OnOk result (page.new.items ≡ page.old.items ++ window number width) }
 {
-    put_place_in(page, number + 2, number + 8, (0, 0, 900))?;
+    put_place_in(page, number + 2, number + 8, &Place { x: 0, y: 0, z: 900 })?;
     put_block(page, number + 11, width, 400, 1200)?;
     put_opening(page, number + 15, number + 10, number + 14)?;
     put_voids(page, number + 16, number + 7, number + 15)
@@ -83,7 +84,15 @@ pub(crate) fn put_wall(page: &mut Vec<u8>, i: u32) -> Result<(), AllocError>
 pub(crate) fn put_slab(page: &mut Vec<u8>) -> Result<(), AllocError>
     ensures { OnOk result (page.new.items ≡ page.old.items ++ slab) }
 {
-    put_place(page, 10000, (0, 20000, 0))?;
+    put_place(
+        page,
+        10000,
+        &Place {
+            x: 0,
+            y: 20000,
+            z: 0,
+        },
+    )?;
     put_block(page, 10003, 16000, 11000, 250)?;
     put_slab_line(page, 10007, 10002, 10006)?;
     put_block(page, 10008, 500, 500, 350)
@@ -94,7 +103,7 @@ fn put_hole_at(page: &mut Vec<u8>, number: u32, x: i64, y: i64) -> Result<(), Al
     requires { number ≤ 20000 }
     ensures { OnOk result (page.new.items ≡ page.old.items ++ hole_at number x y) }
 {
-    put_place_in(page, 10002, number, (x, y, -50))?;
+    put_place_in(page, 10002, number, &Place { x, y, z: -50 })?;
     put_opening(page, number + 3, number + 2, 10011)?;
     put_voids(page, number + 4, 10007, number + 3)
 }

@@ -2,7 +2,7 @@ ghost use Rattle.std.specs.Prelude.{◌≡◌, ◌++◌, OnOk, codes};
 ghost use Rattle.model_gen.specs.Lines.{reference, references, two_lengths, coordinates, millimetres, line, point_line, axes_line, placement_line, placement_in_line, rectangle_line, extrusion_line, representation_line, shape_line, wall_line, slab_line, opening_line, voids_line};
 
 use crate::numbers::{
-    put_coordinates, put_lengths, put_millimetres, put_name, put_reference, put_references,
+    Place, put_coordinates, put_lengths, put_millimetres, put_name, put_reference, put_references,
 };
 use std::alloc::AllocError;
 
@@ -44,14 +44,14 @@ fn put_located(
     page: &mut Vec<u8>,
     number: u32,
     before: &[u8],
-    place: (i64, i64, i64),
+    place: &Place,
     behind: &[u8],
 ) -> Result<(), AllocError>
-    ensures { OnOk result (page.new.items ≡ page.old.items ++ line number before.now (coordinates place.0 place.1 place.2) behind.now) }
+    ensures { OnOk result (page.new.items ≡ page.old.items ++ line number before.now (coordinates place.now.x place.now.y place.now.z) behind.now) }
 {
     put_name(page, number)?;
     page.extend_from_slice(before)?;
-    put_coordinates(page, place.0, place.1, place.2)?;
+    put_coordinates(page, place)?;
     page.extend_from_slice(behind)
 }
 
@@ -99,12 +99,8 @@ fn put_deep_line(
     page.extend_from_slice(behind)
 }
 
-pub(crate) fn put_point(
-    page: &mut Vec<u8>,
-    number: u32,
-    place: (i64, i64, i64),
-) -> Result<(), AllocError>
-    ensures { OnOk result (page.new.items ≡ page.old.items ++ point_line number place.0 place.1 place.2) }
+pub(crate) fn put_point(page: &mut Vec<u8>, number: u32, place: &Place) -> Result<(), AllocError>
+    ensures { OnOk result (page.new.items ≡ page.old.items ++ point_line number place.now.x place.now.y place.now.z) }
 {
     put_located(page, number, b"IFCCARTESIANPOINT((", place, b"));\n")
 }

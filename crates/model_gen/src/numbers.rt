@@ -3,6 +3,14 @@ ghost use Rattle.model_gen.specs.Lines.{reference, references, name, millimetres
 
 use std::alloc::AllocError;
 
+/// A place in millimetres.
+#[derive(Clone, Copy)]
+pub(crate) struct Place {
+    pub(crate) x: i64,
+    pub(crate) y: i64,
+    pub(crate) z: i64,
+}
+
 /// Appends a reference to an instance.
 pub(crate) fn put_reference(page: &mut Vec<u8>, number: u32) -> Result<(), AllocError>
     ensures { OnOk result (page.new.items ≡ page.old.items ++ reference number) }
@@ -68,10 +76,10 @@ fn put_further(page: &mut Vec<u8>, z: i64) -> Result<(), AllocError>
 }
 
 /// Appends three coordinates.
-pub(crate) fn put_coordinates(page: &mut Vec<u8>, x: i64, y: i64, z: i64) -> Result<(), AllocError>
-    ensures { OnOk result (page.new.items ≡ page.old.items ++ coordinates x y z) }
+pub(crate) fn put_coordinates(page: &mut Vec<u8>, place: &Place) -> Result<(), AllocError>
+    ensures { OnOk result (page.new.items ≡ page.old.items ++ coordinates place.now.x place.now.y place.now.z) }
 {
-    put_coordinate(page, x)?;
-    put_further(page, y)?;
-    put_further(page, z)
+    put_coordinate(page, place.x)?;
+    put_further(page, place.y)?;
+    put_further(page, place.z)
 }
