@@ -1,9 +1,10 @@
-ghost use Rattle.std.specs.Prelude.{◌≡◌, ◌++◌, ◌<◌, ◌^◌, [], ◌∷◌, OnOk};
+ghost use Rattle.std.specs.Prelude.{◌≡◌, ◌++◌, OnOk};
 ghost use Rattle.std.specs.Fmt.{decimal};
-ghost use Rattle.spec_page.specs.Lines.{spaced, spaced_three, spaced_vector, spaced_metres, six_digits, size_in_metres, metres, number_line};
+ghost use Rattle.spec_page.specs.Lines.{spaced, spaced_three, spaced_vector, spaced_metres, number_line};
 
 use spec_space::Vector;
 use std::alloc::AllocError;
+use world_print::metres;
 
 /// Appends a number in decimal.
 pub(crate) fn put_number(page: &mut Vec<u8>, number: u128) -> Result<(), AllocError>
@@ -37,47 +38,12 @@ pub(crate) fn put_vector(page: &mut Vec<u8>, vector: &Vector) -> Result<(), Allo
     put_three(page, vector.x, vector.y, vector.z)
 }
 
-/// The six digits of a fraction.
-fn six_digits(number: u128) -> [u8; 6]
-    requires { number < 10 ^ 6 }
-    ensures { result ≡ six_digits number }
-{
-    [
-        b'0' + (number / 100_000) as u8,
-        b'0' + (number / 10_000 % 10) as u8,
-        b'0' + (number / 1_000 % 10) as u8,
-        b'0' + (number / 100 % 10) as u8,
-        b'0' + (number / 10 % 10) as u8,
-        b'0' + (number % 10) as u8,
-    ]
-}
-
-/// Appends a size in micrometres in metres.
-fn put_size(page: &mut Vec<u8>, size: u128) -> Result<(), AllocError>
-    ensures { OnOk result (page.new.items ≡ page.old.items ++ size_in_metres size) }
-{
-    let mut buffer = itoa::Buffer::new();
-    page.extend_from_slice(buffer.format(size / 1_000_000).as_bytes())?;
-    page.push(b'.')?;
-    page.extend_from_slice(&six_digits(size % 1_000_000))
-}
-
-/// Appends a number of micrometres in metres.
-fn put_metres(page: &mut Vec<u8>, micro: i128) -> Result<(), AllocError>
-    ensures { OnOk result (page.new.items ≡ page.old.items ++ metres micro) }
-{
-    if micro < 0 {
-        page.push(b'-')?;
-    }
-    put_size(page, micro.unsigned_abs())
-}
-
 /// Appends a number of micrometres in metres, behind a space.
 pub(crate) fn put_spaced_metres(page: &mut Vec<u8>, micro: i128) -> Result<(), AllocError>
     ensures { OnOk result (page.new.items ≡ page.old.items ++ spaced_metres micro) }
 {
     page.push(b' ')?;
-    put_metres(page, micro)
+    metres(page, micro)
 }
 
 /// Appends a whole number behind a sign, on a line.

@@ -1,0 +1,4 @@
+pub mod Floors
+pub mod Sizes
+pub mod Images
+pub mod Prints
