@@ -2,4 +2,4 @@ pub mod Threes
 pub mod Replaced
 pub mod Small
 pub mod Outlines
-pub mod Shapes
+pub mod EndLaws

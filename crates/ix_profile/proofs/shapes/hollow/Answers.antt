@@ -3,7 +3,7 @@ use Rattle.std.proofs.lemmas.Result.{IfOk-weaker}
 use Rattle.std.proofs.lemmas.Int.{to_z-of_z}
 use mir.Syntax.{w128}
 use Rattle.spec_shape.specs.Profiles.{hollow}
-use Rattle.ix_profile.proofs.Shapes.{hollow_ends}
+use Rattle.ix_profile.proofs.EndLaws.{hollow_ends}
 use Rattle.ix_profile.proofs.shapes.hollow.Goals as goal
 
 pub returns-clause-value : goal.returns-clause-value

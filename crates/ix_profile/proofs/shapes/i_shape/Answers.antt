@@ -3,7 +3,7 @@ use Rattle.std.proofs.lemmas.Result.{IfOk-weaker}
 use Rattle.std.proofs.lemmas.Int.{to_z-of_z}
 use mir.Syntax.{w128}
 use Rattle.spec_shape.specs.Profiles.{i_shape}
-use Rattle.ix_profile.proofs.Shapes.{i_ends}
+use Rattle.ix_profile.proofs.EndLaws.{i_ends}
 use Rattle.ix_profile.proofs.shapes.i_shape.Goals as goal
 
 pub returns-clause-value : goal.returns-clause-value
