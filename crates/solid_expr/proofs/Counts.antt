@@ -48,3 +48,16 @@ count_here solids i d l = ap count_all (drop_more solids i d l) ∙ count_step (
 
 pub count_end : (solids : List Solid) (i : ℕ) → length solids ≤ i → count_all (drop i solids) ≡ 0
 count_end solids i l = ap count_all (drop_all i solids l)
+
+-- a count so far and what is here make the whole; what is here is the next number and the rest
+pub part_fits : (count v here rest whole n : ℕ) → here ≡ v + rest → count + here ≡ whole → whole < n → v < n
+part_fits count v here rest whole n e h l = omega arith
+
+pub sum_fits : (count r v here rest whole n : ℕ) → r ≡ v → here ≡ v + rest → count + here ≡ whole → whole < n → count + r < n
+sum_fits count r v here rest whole n t e h l = omega arith
+
+pub sum_more : (count r v here rest whole : ℕ) → r ≡ v → here ≡ v + rest → count + here ≡ whole → (count + r) + rest ≡ whole
+sum_more count r v here rest whole t e h = omega arith
+
+pub sum_end : (count here whole : ℕ) → here ≡ 0 → count + here ≡ whole → count ≡ whole
+sum_end count here whole e h = omega arith
