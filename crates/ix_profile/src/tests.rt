@@ -90,7 +90,10 @@ fn opens_a_closed_curve(rt: HostRuntime) -> Result<(), Fail> {
     let Some(found) = Loop::of_curve(planar(rt.alloc(), &closed)?) else {
         return Err(Fail::from("no loop"));
     };
-    let want = planar(rt.alloc(), &[(0, 0), (4, 0), (4, 1), (1, 1), (1, 3), (0, 3)])?;
+    let want = planar(
+        rt.alloc(),
+        &[(0, 0), (4, 0), (4, 1), (1, 1), (1, 3), (0, 3)],
+    )?;
     assert_eq!(rt; found.len(), 6);
     let mut loops = Loops::new(rt.alloc());
     loops.push(found)?;

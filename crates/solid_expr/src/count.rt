@@ -107,6 +107,7 @@ pub fn count_triangles(solid: &Solid) -> u128
 
 /// How many triangles and half-spaces the solids have together.
 #[cycle(count)]
+#[tactic(auto, using(crate::proofs::Counts::part_small))]
 fn count_parts(solids: &[Solid]) -> u128
     requires { count_triangles (united (map shape_of solids.now)) < 2 ^ 128 }
     ensures { result ≡ count_triangles (united (map shape_of solids.now)) }

@@ -89,7 +89,11 @@ fn makes_the_faces_of_a_block(rt: HostRuntime) -> Result<(), Fail> {
 fn lifts_and_sweeps_a_rectangle(rt: HostRuntime) -> Result<(), Fail> {
     let loops = lifted(rectangle(rt.alloc(), 2, 2)?, -5);
     let low = [
-        Vector { x: -1, y: -1, z: -5 },
+        Vector {
+            x: -1,
+            y: -1,
+            z: -5,
+        },
         Vector { x: 1, y: -1, z: -5 },
         Vector { x: 1, y: 1, z: -5 },
         Vector { x: -1, y: 1, z: -5 },

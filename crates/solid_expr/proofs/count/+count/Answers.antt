@@ -1,19 +1,8 @@
-use Rattle.std.proofs.Common.{rules, ◌≡◌, ◌<◌, ◌^◌, ◌+◌, ◌∙◌, ap, sym, subst, refl, drop, get_or}
+use Rattle.std.proofs.Common.{◌≡◌, ◌<◌, ◌^◌, ◌+◌, ◌∙◌, ap, drop, get_or}
 use Rattle.spec_shape.specs.Shapes.{count_triangles}
 use Rattle.solid_expr.specs.Views.{shape_of}
-use Rattle.solid_expr.proofs.Counts.{count_all, count_here, count_end, part_fits, sum_fits, sum_more, sum_end}
+use Rattle.solid_expr.proofs.Counts.{count_all, count_here, count_end, sum_fits, sum_more, sum_end}
 use Rattle.solid_expr.proofs.count.+count.Goals as goal
-
-pub count_parts-loop-solid-init : goal.count_parts-loop-solid-init
-count_parts-loop-solid-init t c = refl
-
-pub count_parts-count_triangles-count-requires : goal.count_parts-count_triangles-count-requires
-count_parts-count_triangles-count-requires t c =
-    let solids = c.args.solids.now in
-    let i = c.loop-solid.solid-index in
-    let small = part_fits c.loop-solid.count (count_triangles (shape_of (get_or solids i c.solid-item.result))) (count_all (drop i solids)) (count_all (drop (i + 1) solids))
-      (count_all solids) (2 ^ 128) (count_here solids i c.solid-item.result c.loop-solid-test.true) c.loop-solid.invariant c.requires in
-    (search rules, subst (λ s. count_triangles (shape_of s) < 2 ^ 128) (sym c.solid-item.is) small)
 
 pub count_parts-overflow_add-count : goal.count_parts-overflow_add-count
 count_parts-overflow_add-count t c =
@@ -22,7 +11,7 @@ count_parts-overflow_add-count t c =
     let item = get_or solids i c.solid-item.result in
     let same = c.count_triangles-count.ensures ∙ ap (λ s. count_triangles (shape_of s)) c.solid-item.is in
     let small = sum_fits c.loop-solid.count c.count_triangles-count.result (count_triangles (shape_of item)) (count_all (drop i solids)) (count_all (drop (i + 1) solids))
-      (count_all solids) (2 ^ 128) same (count_here solids i c.solid-item.result c.loop-solid-test.true) c.loop-solid.invariant c.requires in
+    (count_all solids) (2 ^ 128) same (count_here solids i c.solid-item.result c.loop-solid-test.true) c.loop-solid.invariant c.requires in
     record { fits = small }
 
 pub count_parts-loop-solid-preserved : goal.count_parts-loop-solid-preserved
