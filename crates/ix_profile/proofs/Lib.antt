@@ -3,3 +3,4 @@ pub mod Replaced
 pub mod Small
 pub mod Outlines
 pub mod EndLaws
+pub mod Opened

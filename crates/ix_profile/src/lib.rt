@@ -2,6 +2,8 @@
 #![tactic(auto)]
 
 mod curve;
+mod curves;
+mod fault;
 mod loops;
 mod place;
 mod shapes;
@@ -9,5 +11,6 @@ mod span;
 #[cfg(test)]
 mod tests;
 
+pub use fault::LoopFault;
 pub use loops::{Loop, Loops};
 pub use shapes::{hollow, i_shape, rectangle};

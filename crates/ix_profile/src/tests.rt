@@ -1,4 +1,4 @@
-use crate::{Loop, Loops, hollow, i_shape, rectangle};
+use crate::{Loop, LoopFault, Loops, hollow, i_shape, rectangle};
 use ix_place::Dir;
 use spec_space::Vector;
 use std::alloc::{AllocError, Global};
@@ -100,5 +100,25 @@ fn opens_a_closed_curve(rt: HostRuntime) -> Result<(), Fail> {
     assert_eq!(rt; corners(&loops, 0), want.as_slice());
     let two = planar(rt.alloc(), &[(0, 0), (4, 0), (0, 0), (4, 0)])?;
     assert!(rt; Loop::of_curve(two).is_none());
+    Ok(())
+}
+
+#[test]
+fn names_the_first_degenerate_curve(rt: HostRuntime) -> Result<(), Fail> {
+    let triangle = [(0, 0), (4, 0), (0, 3), (0, 0)];
+    let mut curves = Vec::new(rt.alloc());
+    curves.push(Loop {
+        points: planar(rt.alloc(), &triangle)?,
+    })?;
+    let loops = match Loops::of_curves(rt.alloc(), &curves) {
+        Ok(loops) => loops,
+        Err(_) => return Err(Fail::from("no loops")),
+    };
+    assert_eq!(rt; corners(&loops, 0).len(), 3);
+    curves.push(Loop {
+        points: planar(rt.alloc(), &[(0, 0), (4, 0), (0, 0)])?,
+    })?;
+    let fault = Loops::of_curves(rt.alloc(), &curves);
+    assert!(rt; matches!(&fault, Err(LoopFault::DegenerateLoop { which: 1 })));
     Ok(())
 }
