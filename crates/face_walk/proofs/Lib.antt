@@ -1,0 +1,7 @@
+mod Neighbours
+mod SideTrees
+mod Held
+mod Placed
+mod Generic
+mod Ranges
+mod Sheets

@@ -2,5 +2,11 @@
 #![tactic(auto)]
 
 mod faces;
+mod lower;
+mod places;
+mod visits;
+mod walk;
+mod work;
 
 pub use faces::OutFace;
+pub use walk::{all_faces, faces_on};
