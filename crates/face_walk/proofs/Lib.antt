@@ -5,3 +5,7 @@ mod Placed
 mod Generic
 mod Ranges
 mod Sheets
+mod Visits
+mod Opened
+mod Lowered
+mod Whole

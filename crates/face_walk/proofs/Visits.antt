@@ -6,7 +6,7 @@ use Rattle.std.proofs.lemmas.Int.{ints}
 use Rattle.std.proofs.lemmas.Bool.{eqb-true, eq-eqb, cases_lt}
 use Rattle.std.proofs.lemmas.List.Sums.{sum_by_push, sum_by-append, sum_by-cons}
 use Rattle.std.proofs.lemmas.List.Folds.{list_all-append}
-use Rattle.std.proofs.lemmas.List.Elements.{All-nil, All-push, All-contains}
+use Rattle.std.proofs.lemmas.List.Elements.{All-nil, All-cons, All-head, All-tail, All-push, All-contains}
 use Rattle.spec_space.specs.declared.Point.{Point}
 use Rattle.spec_space.specs.declared.Plane.{Plane}
 use Rattle.spec_space.specs.Points.{IsPoint, value, opposite}
@@ -47,7 +47,7 @@ within_from_flags : (planes : List BookPlane) (p : Point) (steps : List Step) �
 within_from_flags planes p [] e = All-nil (λ s. pos 0 <ℤ value (step_side planes s) p)
 within_from_flags planes p (s ∷ steps) e =
     let both = parts_of (is_in_front (step_side planes s) p) (keeps planes steps p) e in
-    Rattle.std.proofs.lemmas.List.Elements.All-cons (λ s. pos 0 <ℤ value (step_side planes s) p) s steps (in_front_from_flag (step_side planes s) p both.0) (within_from_flags planes p steps both.1)
+    All-cons (λ s. pos 0 <ℤ value (step_side planes s) p) s steps (in_front_from_flag (step_side planes s) p both.0) (within_from_flags planes p steps both.1)
   where
     parts_of : (a b : Bool) → (a && b) ≡ true → (a ≡ true) × (b ≡ true)
     parts_of true b e = (refl, e)
@@ -170,6 +170,112 @@ module _ (pool : Slots) (planes : List BookPlane) (t : Tree) (fit : IsFit planes
         back = place_on pool planes t (IsInCell planes steps) (IsInCell planes (steps ++ s ∷ [])) false keep plane.k id (child keep i j) visit.back (child_stands pool id plane i j at keep) (side false);
       }
 
-  -- a point is in the cell of one of the parts, or on the top's plane
-  front_step : Step
-  front_step = record { plane = plane; in_front = true }
+  -- ---- a point is in the cell of one of the parts, or on the top's plane
+  sum_on : (kept : Bool) (d : ℕ) → cond true (cond kept d 0) 0 + (cond (kept && false) d 0 + cond (kept && false) d 0) ≡ cond kept d 0
+  sum_on true d = omega arith
+  sum_on false d = refl
+
+  sum_back : (kept : Bool) (d : ℕ) → cond false (cond kept d 0) 0 + (cond (kept && true) d 0 + cond (kept && false) d 0) ≡ cond kept d 0
+  sum_back true d = omega arith
+  sum_back false d = refl
+
+  sum_front : (kept : Bool) (d : ℕ) → cond false (cond kept d 0) 0 + (cond (kept && false) d 0 + cond (kept && true) d 0) ≡ cond kept d 0
+  sum_front true d = omega arith
+  sum_front false d = refl
+
+  sum_of : (same back front kept : Bool) (d : ℕ) → ℕ
+  sum_of same back front kept d = cond same (cond kept d 0) 0 + (cond (kept && back) d 0 + cond (kept && front) d 0)
+
+  not_ahead : (k : Plane) (p : Point) → (pos 0 <ℤ value k p → ⊥) → is_in_front k p ≡ false
+  not_ahead k p none = no_flag (is_in_front k p) (λ e. none (in_front_from_flag k p e))
+
+  zero_no_more : (x : ℤ) → x ≡ pos 0 → pos 0 <ℤ x → ⊥
+  zero_no_more x e h = omega (arith, ints)
+
+  zero_no_less : (x y : ℤ) → y ≡ neg_ℤ x → x ≡ pos 0 → pos 0 <ℤ y → ⊥
+  zero_no_less x y f e h = omega (arith, ints)
+
+  low_no_more : (x : ℤ) → x <ℤ pos 0 → pos 0 <ℤ x → ⊥
+  low_no_more x e h = omega (arith, ints)
+
+  high_no_less : (x y : ℤ) → y ≡ neg_ℤ x → pos 0 <ℤ x → pos 0 <ℤ y → ⊥
+  high_no_less x y f e h = omega (arith, ints)
+
+  low_some : (x : ℤ) → x <ℤ pos 0 → x ≡ pos 0 → ⊥
+  low_some x h e = omega (arith, ints)
+
+  other_number : (h : PlaneId) (p : Point) → IsAloneOn planes t h p → (value (plane_at planes plane) p ≡ pos 0 → ⊥) → nat_eq plane.k h.k ≡ false
+  other_number h p alone off = no_flag (nat_eq plane.k h.k) (λ same. off (subst (λ n. value (plane_at planes (record { k = n })) p ≡ pos 0) (sym (eqb-true plane.k h.k same)) alone.on))
+
+  by_side : (h : PlaneId) (p : Point) → IsAloneOn planes t h p → (kept : Bool) (d : ℕ)
+      → cond (nat_eq plane.k h.k) (cond kept d 0) 0 + (cond (kept && is_in_front (opposite (plane_at planes plane)) p) d 0 + cond (kept && is_in_front (plane_at planes plane) p) d 0) ≡ cond kept d 0
+  by_side h p alone kept d =
+      let k = plane_at planes plane in
+      let turned = value-opposite k p in
+      elim (sign_cases (value k p)) [
+        | inl low ↦
+            let same = other_number h p alone (low_some (value k p) low) in
+            let back = front_flag (opposite k) p true (opposite_front k p low) in
+            let front = not_ahead k p (low_no_more (value k p) low) in
+            (λ i. cond (same i) (cond kept d 0) 0 + (cond (kept && back i) d 0 + cond (kept && front i) d 0)) ∙ sum_back kept d
+        | inr (inl on) ↦
+            let same = eq-eqb plane.k h.k (alone_number planes t h plane p alone own_plane on) in
+            let back = not_ahead (opposite k) p (zero_no_less (value k p) (value (opposite k) p) turned on) in
+            let front = not_ahead k p (zero_no_more (value k p) on) in
+            (λ i. cond (same i) (cond kept d 0) 0 + (cond (kept && back i) d 0 + cond (kept && front i) d 0)) ∙ sum_on kept d
+        | inr (inr high) ↦
+            let same = other_number h p alone (λ e. zero_no_more (value k p) e high) in
+            let back = not_ahead (opposite k) p (high_no_less (value k p) (value (opposite k) p) turned high) in
+            let front = front_flag k p true high in
+            (λ i. cond (same i) (cond kept d 0) 0 + (cond (kept && back i) d 0 + cond (kept && front i) d 0)) ∙ sum_front kept d
+      ]
+
+  pub parts_due : (h : PlaneId) (p : Point) → IsAloneOn planes t h p → (d : ℕ)
+      → cond (nat_eq plane.k h.k) (in_path planes d p steps) 0 + (in_path planes d p (steps ++ record { plane = plane; in_front = false } ∷ []) + in_path planes d p (steps ++ record { plane = plane; in_front = true } ∷ [])) ≡ in_path planes d p steps
+  parts_due h p alone d =
+      let back = keeps_push planes p steps (record { plane = plane; in_front = false }) in
+      let front = keeps_push planes p steps (record { plane = plane; in_front = true }) in
+      (λ i. cond (nat_eq plane.k h.k) (in_path planes d p steps) 0 + (cond (back i) d 0 + cond (front i) d 0)) ∙ by_side h p alone (keeps planes steps p) d
+
+-- ---- faces of the top's plane
+module _ (pool : Slots) (planes : List BookPlane) (only : Option PlaneId) (steps : List Step) (plane : PlaneId) (i j : TreeId) where
+  adds_none : (x n : ℕ) → n ≡ 0 → x ≡ x + n
+  adds_none x n e = omega arith
+
+  unsought : is_sought only plane ≡ false → (h : PlaneId) → is_sought only h ≡ true → (d : ℕ) → (same : Bool) → nat_eq plane.k h.k ≡ same → cond same d 0 ≡ 0
+  unsought none h sought d false e = refl
+  unsought none h sought d true e = absurd (true≢false (sym (subst (λ n. is_sought only (record { k = n }) ≡ true) (sym (eqb-true plane.k h.k e)) sought) ∙ none))
+
+  pub own_unsought : is_sought only plane ≡ false → (faces : List OutFace) → AddsOwn pool planes only steps plane i j faces faces
+  own_unsought none faces = record {
+    are_faces = λ t id fit at visit all. all;
+    shown = λ t id h p side fit given sought at visit alone.
+        adds_none (seen planes side p faces) (cond (nat_eq plane.k h.k) (in_path planes (due_at planes t h side p) p steps) 0)
+        (unsought none h sought (in_path planes (due_at planes t h side p) p steps) (nat_eq plane.k h.k) refl);
+    on_plane = λ id only_id all. all;
+  }
+
+  pub own_none : (HasPointOn planes steps (plane_at planes plane) → ⊥) → (faces : List OutFace) → AddsOwn pool planes only steps plane i j faces faces
+  own_none none faces = record {
+    are_faces = λ t id fit at visit all. all;
+    shown = λ t id h p side fit given sought at visit alone.
+        adds_none (seen planes side p faces) (cond (nat_eq plane.k h.k) (in_path planes (due_at planes t h side p) p steps) 0)
+        (none_due pool planes t fit steps id visit plane i j at none h p alone (due_at planes t h side p));
+    on_plane = λ id only_id all. all;
+  }
+
+  sought_one : (id : PlaneId) → IsSoughtOnly only id → is_sought only plane ≡ true → id.k ≡ plane.k
+  sought_one id e sought = eqb-true id.k plane.k (subst (λ o. is_sought o plane ≡ true) e sought)
+
+  same_id : (a b : PlaneId) → a.k ≡ b.k → a ≡ b
+  same_id a b e = λ x. record { k = e x }
+
+  pub own_added : (f : Frag) → IsPolygon planes steps plane f → is_sought only plane ≡ true → (found faces : List OutFace) → AddsFaces pool planes (record { frag = f; places = record { front = i; back = j } }) found faces
+      → AddsOwn pool planes only steps plane i j found faces
+  own_added f polygon sought found faces added = record {
+    are_faces = λ t id fit at visit all. added.are_faces t fit (own_sheet pool planes t fit steps id visit plane i j at f polygon) all;
+    shown = λ t id h p side fit given sought_h at visit alone.
+        added.shown t h p side fit given (own_sheet pool planes t fit steps id visit plane i j at f polygon) alone
+        ∙ ap (λ n. seen planes side p found + n) (own_held pool planes t fit steps id visit plane i j at f polygon h p alone (due_at planes t h side p));
+    on_plane = λ id only_id all. added.on_plane id (polygon.support ∙ sym (same_id id plane (sought_one id only_id sought))) all;
+  }

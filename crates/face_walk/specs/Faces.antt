@@ -1,6 +1,6 @@
 -- The boundary of a tree of planes, and the pieces that show it.
 use Rattle.std.specs.Prelude.{◌≡◌, ◌≢◌, ◌≤◌, ◌<◌, ℕ, ℤ, pos, negsuc, ◌*ℤ◌, ◌≤ℤ◌, Bool, true, false, List, [], ◌∷◌, length, map, filter, Option, Some, None, All}
-use Rattle.std.specs.List.{AllPairs}
+use Rattle.std.specs.List.Sorted.{IsNonDecreasingBy}
 use Rattle.spec_space.specs.declared.Point.{Point}
 use Rattle.spec_space.specs.Points.{IsPoint, value}
 use Rattle.spec_solid.specs.Planes.{front_of, back_of}
@@ -90,4 +90,4 @@ pub record AreFacesOn (planes : List BookPlane) (t : Tree) (id : PlaneId) (piece
 pub record AreFacesOf (planes : List BookPlane) (t : Tree) (pieces : List OutFace) : Type 0 where
   pub faces : All (IsFace planes t) pieces
   pub boundary : (id : PlaneId) → id.k < length planes → ShowBoundary planes t id pieces
-  pub in_order : AllPairs (λ o q. o.frag.support.k ≤ q.frag.support.k) pieces
+  pub in_order : IsNonDecreasingBy (λ o. o.frag.support.k) pieces

@@ -127,7 +127,7 @@ pub(crate) fn add_faces(
 {
     let mut sheets = Vec::new(alloc);
     sheets.push(sheet)?;
-    while let Some(next) = sheets.pop() {
+    'down: while let Some(next) = sheets.pop() {
         turn(alloc, book, pool, next, &mut sheets, faces)?;
     }
     Ok(())

@@ -119,7 +119,7 @@ pub(crate) fn walk(
     let mut visits = Vec::new(alloc);
     let mut faces = Vec::new(alloc);
     open(alloc, book, pool, only, &path, id, &mut visits, &mut faces)?;
-    while let Some(visit) = visits.pop() {
+    'walk: while let Some(visit) = visits.pop() {
         path.truncate(visit.depth);
         path.push(visit.step)?;
         open(
