@@ -5,7 +5,7 @@ mod Placed
 mod Generic
 mod Ranges
 mod Sheets
-mod Visits
+mod Nodes
 mod Opened
 mod Lowered
 mod Whole

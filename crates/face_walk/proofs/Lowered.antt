@@ -11,7 +11,7 @@ use Rattle.tree_pool.specs.Pools.{Slots}
 use Rattle.face_walk.specs.Faces.{IsAloneOn, IsFace}
 use Rattle.face_walk.specs.declared.faces.OutFace.{OutFace}
 use Rattle.face_walk.specs.declared.work.Sheet.{Sheet}
-use Rattle.face_walk.specs.Works.{IsFit, IsSheetOf, due_at, in_frag, seen, waiting, sheet_weight, sheets_weight, IsOnSupport, IsFaceOnPlane, IsTurn, AddsFaces}
+use Rattle.face_walk.specs.Works.{IsFit, IsSheetOf, IsSafe, due_at, in_frag, seen, waiting, sheet_weight, sheets_weight, IsOnSupport, IsFaceOnPlane, IsFragmentFace, IsTurn, AddsFaces}
 
 -- what was found of a sheet, and the parts that wait
 pub record IsDown (pool : Slots) (planes : List BookPlane) (t : Tree) (whole : Sheet) (old : List OutFace) (sheets : List Sheet) (faces : List OutFace) : Type 0 where
@@ -51,13 +51,13 @@ module _ (pool : Slots) (planes : List BookPlane) (whole : Sheet) (old : List Ou
         (ap (waiting planes d p) f ∙ sum_by_push (λ s. in_frag planes d p s.frag) none whole ∙ ap (λ xs. waiting planes d p xs + in_frag planes d p whole.frag) e);
   }
 
+  pub safe_begins : (none sheets : List Sheet) → none ≡ [] → sheets ≡ none ++ whole ∷ [] → IsSafe pool planes whole → All (IsSafe pool planes) sheets
+  safe_begins none sheets e f is = only_one (IsSafe pool planes) none sheets whole e f is
+
   pub on_begins : (none sheets : List Sheet) → none ≡ [] → sheets ≡ none ++ whole ∷ [] → (id : PlaneId) → IsOnSupport id whole → IsOnPlane id old sheets old
   on_begins none sheets e f id on = record { sheets = only_one (IsOnSupport id) none sheets whole e f on; faces = λ all. all }
 
   module _ (waits rest new : List Sheet) (s : Sheet) (found faces : List OutFace) (popped : waits ≡ rest ++ s ∷ []) where
-    pub down_next : (t : Tree) → IsDown pool planes t whole old waits found → IsSheetOf pool planes t s
-    down_next t down = (last_of (IsSheetOf pool planes t) waits rest s popped down.sheets).1
-
     pub down_goes_on : IsTurn pool planes s rest new found faces → (t : Tree) → IsFit planes t → IsDown pool planes t whole old waits found → IsDown pool planes t whole old new faces
     down_goes_on turn t fit down =
         let parts = last_of (IsSheetOf pool planes t) waits rest s popped down.sheets in
@@ -76,12 +76,24 @@ module _ (pool : Slots) (planes : List BookPlane) (whole : Sheet) (old : List Ou
         let parts = last_of (IsOnSupport id) waits rest s popped on.sheets in
         record { sheets = turn.support id parts.1 parts.0; faces = λ all. turn.on_plane id parts.1 (on.faces all) }
 
+    pub safe_next : All (IsSafe pool planes) waits → IsSafe pool planes s
+    safe_next all = (last_of (IsSafe pool planes) waits rest s popped all).1
+
+    pub safe_goes_on : IsTurn pool planes s rest new found faces → All (IsSafe pool planes) waits → All (IsSafe pool planes) new
+    safe_goes_on turn all =
+        let parts = last_of (IsSafe pool planes) waits rest s popped all in
+        turn.safe parts.1 parts.0
+
+    pub fragments_go_on : IsTurn pool planes s rest new found faces → All (IsSafe pool planes) waits → (All (IsFragmentFace planes) old → All (IsFragmentFace planes) found) → All (IsFragmentFace planes) old → All (IsFragmentFace planes) faces
+    fragments_go_on turn all so_far given = turn.fragments (last_of (IsSafe pool planes) waits rest s popped all).1 (so_far given)
+
     pub down_lower : IsTurn pool planes s rest new found faces → sheets_weight pool new < sheets_weight pool waits
     down_lower turn = subst (λ n. sheets_weight pool new < n) (sym (ap (sheets_weight pool) popped ∙ sum_by_push (sheet_weight pool) rest s)) turn.lower
 
   pub down_ends : (sheets : List Sheet) (faces : List OutFace) → sheets ≡ [] → ((t : Tree) → IsFit planes t → IsSheetOf pool planes t whole → IsDown pool planes t whole old sheets faces)
-      → ((id : PlaneId) → IsOnSupport id whole → IsOnPlane id old sheets faces) → AddsFaces pool planes whole old faces
-  down_ends sheets faces e down on = record {
+      → ((id : PlaneId) → IsOnSupport id whole → IsOnPlane id old sheets faces) → (All (IsFragmentFace planes) old → All (IsFragmentFace planes) faces) → AddsFaces pool planes whole old faces
+  down_ends sheets faces e down on fragments = record {
+    fragments = fragments;
     are_faces = λ t fit is. (down t fit is).are_faces;
     shown = λ t id p side fit given is alone.
         let d = due_at planes t id side p in

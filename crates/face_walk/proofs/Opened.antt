@@ -4,7 +4,7 @@ use Rattle.std.specs.Prelude.{sum_by, nat_eq}
 use Rattle.std.specs.List.{AllPairs}
 use Rattle.std.proofs.lemmas.List.{take-append-le, length-take-le, length_push}
 use Rattle.std.proofs.lemmas.List.Sums.{sum_by_push, sum_by-cons}
-use Rattle.std.proofs.lemmas.List.Elements.{All-nil, All-push}
+use Rattle.std.proofs.lemmas.List.Elements.{All-nil, All-push, All-take}
 use Rattle.std.proofs.lemmas.List.Quantifiers.{all_pairs_push}
 use Rattle.spec_space.specs.declared.Point.{Point}
 use Rattle.plane_core.specs.declared.numbers.Plane.{Plane as BookPlane}
@@ -21,10 +21,10 @@ use Rattle.tree_pool.proofs.Walks.{children}
 use Rattle.face_walk.specs.Faces.{IsAloneOn, told, IsFace}
 use Rattle.face_walk.specs.declared.faces.OutFace.{OutFace}
 use Rattle.face_walk.specs.declared.work.Visit.{Visit}
-use Rattle.face_walk.specs.Works.{IsFit, due, due_at, seen, IsFaceOnPlane, keeps, in_path, steps_of, waiting_visit, IsVisitAt, IsVisitOf, pending, weight_of, visit_weight, visits_weight, AreStacked, is_sought, IsSoughtOnly, AddsOwn, IsOpened}
+use Rattle.face_walk.specs.Works.{IsFit, due, due_at, seen, IsFaceOnPlane, keeps, in_path, steps_of, waiting_visit, IsVisitAt, IsVisitOf, IsSafeVisit, IsPathOf, pending, weight_of, visit_weight, visits_weight, AreStacked, is_sought, IsSoughtOnly, AddsOwn, IsOpened}
 use Rattle.face_walk.proofs.Placed.{leaf_place}
 use Rattle.face_walk.proofs.Sheets.{weight_some, weight_two, due_same}
-use Rattle.face_walk.proofs.Visits.{in_cell, child_visit, parts_due}
+use Rattle.face_walk.proofs.Nodes.{in_cell, own_plane, child_visit, parts_due}
 
 -- ---- a leaf
 module _ (pool : Slots) (ok : AreTrees pool) (planes : List BookPlane) (only : Option PlaneId) (path : List Step) (id : TreeId) (b : Bool) (at : node_at pool id ≡ Some (Leaf b)) where
@@ -49,6 +49,8 @@ module _ (pool : Slots) (ok : AreTrees pool) (planes : List BookPlane) (only : O
         adds_none (seen planes side p faces) (pending planes (due_at planes t h side p) p path visits) (in_path planes (due_at planes t h side p) p path)
         (none_due t visit h p side given alone (keeps planes path p) refl);
     on_plane = λ h only_h all. all;
+    fragments = λ all. all;
+    safe = λ all. all;
     stacked = λ s. s;
     lower = lower_all (visits_weight pool visits) (weight_of (rank_at pool id)) (weight_some (rank_at pool id));
   }
@@ -66,7 +68,7 @@ stack_push n visits v e s = record {
   rising = all_pairs_push (λ (u w : Visit). u.depth ≤ w.depth) visits v s.rising (λ k d h. subst (λ m. (get_or visits k d).depth ≤ m) (sym e) (s.within k d h));
 }
 
-module _ (pool : Slots) (built : IsPool pool) (planes : List BookPlane) (only : Option PlaneId) (path : List Step) (id : TreeId) (plane : PlaneId) (i j : TreeId) (at : node_at pool id ≡ Some (Node plane i j)) where
+module _ (pool : Slots) (built : IsPool pool) (planes : List BookPlane) (only : Option PlaneId) (path : List Step) (id : TreeId) (plane : PlaneId) (i j : TreeId) (at : node_at pool id ≡ Some (Node plane i j)) (given : plane.k < length planes) where
   abbrev back : Visit
   back = waiting_visit j (length path) plane false
 
@@ -107,6 +109,11 @@ module _ (pool : Slots) (built : IsPool pool) (planes : List BookPlane) (only : 
             (ap₂ (λ xs ys. cond (nat_eq plane.k h.k) (in_path planes d p path) 0 + (in_path planes d p xs + in_path planes d p ys)) (whole_path path j plane false) (whole_path path i plane true)
             ∙ parts_due pool planes t fit path id visit plane i j at h p alone d);
         on_plane = own.on_plane;
+        fragments = own.fragments;
+        safe = λ all.
+            let P : Visit → Type 0 = IsSafeVisit pool planes in
+            let kids = children pool built id plane i j at in
+            subst (All P) (sym e) (All-push P (old ++ back ∷ []) front (All-push P old back all (record { live = kids.1; given = given })) (record { live = kids.0; given = given }));
         stacked = λ s. subst (AreStacked (length path)) (sym e) (stack_push (length path) (old ++ back ∷ []) front refl (stack_push (length path) old back refl s));
         lower =
             let rank = (children pool built id plane i j at).3 in
@@ -114,6 +121,23 @@ module _ (pool : Slots) (built : IsPool pool) (planes : List BookPlane) (only : 
             (ap (visits_weight pool) e ∙ sum_by_push (visit_weight pool) (old ++ back ∷ []) front ∙ ap (λ n. n + visit_weight pool front) (sum_by_push (visit_weight pool) old back))
             (weight_two (rank_at pool j) (rank_at pool i) (rank_at pool id) (higher (rank_at pool id) (rank_at pool i) (rank_at pool j) rank).1 (higher (rank_at pool id) (rank_at pool i) (rank_at pool j) rank).0);
       }
+
+-- no tree of the book's planes has one that the book does not have
+pub dropped_opened : (pool : Slots) (planes : List BookPlane) (only : Option PlaneId) (path : List Step) (id : TreeId) (plane : PlaneId) (i j : TreeId) → node_at pool id ≡ Some (Node plane i j) → (plane.k < length planes → ⊥)
+    → (visits : List Visit) (faces : List OutFace) → IsOpened pool planes only path id visits visits faces faces
+dropped_opened pool planes only path id plane i j at out visits faces = record {
+  visits = λ t fit visit all. all;
+  are_faces = λ t fit visit all. all;
+  shown = λ t h p side fit given sought visit alone. absurd (out (fit.of_book plane.k (own_plane pool planes t fit path id visit plane i j at)));
+  on_plane = λ h only_h all. all;
+  fragments = λ all. all;
+  safe = λ all. all;
+  stacked = λ s. s;
+  lower = more_than (visits_weight pool visits) (weight_of (rank_at pool id)) (weight_some (rank_at pool id));
+}
+  where
+    more_than : (w n : ℕ) → 1 ≤ n → w < w + n
+    more_than w n h = omega arith
 
 -- ---- paths that wait, after a path was taken up
 take_take : {X : Type 0} (m n : ℕ) (xs : List X) → m ≤ n → take m (take n xs) ≡ take m xs
@@ -223,12 +247,23 @@ module _ (pool : Slots) (planes : List BookPlane) (t : Tree) (fit : IsFit planes
         on_plane = λ h only_h. opened.on_plane h only_h (walk.on_plane h only_h);
       }
 
-  -- what is asked before it
-  pub walk_next : (path next : List Step) (v : Visit) (waits rest : List Visit) (found : List OutFace) → waits ≡ rest ++ v ∷ [] → next ≡ steps_of path v → IsWalk pool planes t only path waits found → IsVisitAt pool planes t next v.id
-  walk_next path next v waits rest found popped taken walk =
-      let P : Visit → Type 0 = IsVisitOf pool planes t path in
-      let all = each_split P rest (v ∷ []) (each_from_all P (rest ++ v ∷ []) (subst (All P) popped walk.visits)) in
-      subst (λ steps. IsVisitAt pool planes t steps v.id) (sym taken) all.1.0
+-- what a step needs
+safe_parts : (pool : Slots) (planes : List BookPlane) (waits rest : List Visit) (v : Visit) → waits ≡ rest ++ v ∷ [] → All (IsSafeVisit pool planes) waits → All (IsSafeVisit pool planes) rest × IsSafeVisit pool planes v
+safe_parts pool planes waits rest v popped all =
+    let P = IsSafeVisit pool planes in
+    let parts = each_split P rest (v ∷ []) (each_from_all P (rest ++ v ∷ []) (subst (All P) popped all)) in
+    (all_from_each P rest parts.0, parts.1.0)
+
+pub safe_top : (pool : Slots) (planes : List BookPlane) (waits rest : List Visit) (v : Visit) → waits ≡ rest ++ v ∷ [] → All (IsSafeVisit pool planes) waits → IsSafeVisit pool planes v
+safe_top pool planes waits rest v popped all = (safe_parts pool planes waits rest v popped all).1
+
+pub safe_rest : (pool : Slots) (planes : List BookPlane) (waits rest : List Visit) (v : Visit) → waits ≡ rest ++ v ∷ [] → All (IsSafeVisit pool planes) waits → All (IsSafeVisit pool planes) rest
+safe_rest pool planes waits rest v popped all = (safe_parts pool planes waits rest v popped all).0
+
+pub path_next : (planes : List BookPlane) (path next : List Step) (v : Visit) → next ≡ steps_of path v → IsPathOf planes path → v.step.plane.k < length planes → IsPathOf planes next
+path_next planes path next v taken given own =
+    let P : Step → Type 0 = λ s. s.plane.k < length planes in
+    subst (All P) (sym taken) (All-push P (take v.depth path) v.step (All-take P v.depth path given) own)
 
 -- the stack after the top was taken
 pub stack_pop : (path next : List Step) (v : Visit) (waits rest : List Visit) → waits ≡ rest ++ v ∷ [] → next ≡ steps_of path v → AreStacked (length path) waits → AreStacked (length next) rest

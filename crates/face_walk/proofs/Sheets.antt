@@ -25,7 +25,7 @@ use Rattle.face_walk.specs.Faces.{IsAloneOn, told, is_true_at, IsFace}
 use Rattle.face_walk.specs.declared.faces.OutFace.{OutFace}
 use Rattle.face_walk.specs.declared.work.Places.{Places}
 use Rattle.face_walk.specs.declared.work.Sheet.{Sheet}
-use Rattle.face_walk.specs.Works.{IsFit, side_tree, neighbour, IsTop, IsCrossing, AreLive, GoesOn, IsPlace, IsSheetOf, due, due_at, in_frag, seen, waiting, weight_of, sheet_weight, sheets_weight, IsOnSupport, IsFaceOnPlane, IsDivided, IsSettled, IsTurn}
+use Rattle.face_walk.specs.Works.{IsFit, side_tree, neighbour, IsTop, IsCrossing, AreLive, GoesOn, IsPlace, IsSheetOf, IsSafe, due, due_at, in_frag, seen, waiting, weight_of, sheet_weight, sheets_weight, IsOnSupport, IsFaceOnPlane, IsFragmentFace, IsDivided, IsSettled, IsTurn}
 use Rattle.face_walk.proofs.Neighbours.{Side, side_kept, side_own}
 use Rattle.face_walk.proofs.SideTrees.{side_height, top_height}
 use Rattle.face_walk.proofs.Held.{inside_from_held, held_by_one, held_by_two}
@@ -33,9 +33,6 @@ use Rattle.face_walk.proofs.Placed.{stands_live, alone_number, kept_is_side, pla
 use Rattle.face_walk.proofs.Ranges.{in_range, inner_edges}
 
 -- ---- what a step needs
-pub places_live : (pool : Slots) (planes : List BookPlane) (t : Tree) (s : Sheet) → IsSheetOf pool planes t s → AreLive pool s.places
-places_live pool planes t s is = (stands_live pool s.places.front is.front.tree is.front.stands, stands_live pool s.places.back is.back.tree is.back.stands)
-
 top_is_plane : (k : ℕ) (t : Tree) → IsTop k t → IsPlaneOf k t
 top_is_plane k (leaf b) top = absurd top
 top_is_plane k (node h f g) top = inl top
@@ -86,10 +83,19 @@ goes_lower pool ok k x y old new f g sf sg goes top =
     lower (inl t) = inl (top_height k x f t)
     lower (inr t) = inr (top_height k y g t)
 
-pub step_lower : (pool : Slots) → AreTrees pool → (planes : List BookPlane) (t : Tree) (s : Sheet) → IsSheetOf pool planes t s → (k : ℕ) → IsCrossing pool s.places k → (x y : Bool) (next : Places) → GoesOn pool k x y s.places next
-    → rank_at pool next.front + rank_at pool next.back < rank_at pool s.places.front + rank_at pool s.places.back
-step_lower pool ok planes t s is k crossing x y next goes =
-    goes_lower pool ok k x y s.places next is.front.tree is.back.tree is.front.stands is.back.stands goes (crossing is.front.tree is.back.tree is.front.stands is.back.stands)
+pub step_lower : (pool : Slots) → AreTrees pool → (at : Places) → AreLive pool at → (k : ℕ) → IsCrossing pool at k → (x y : Bool) (next : Places) → GoesOn pool k x y at next
+    → rank_at pool next.front + rank_at pool next.back < rank_at pool at.front + rank_at pool at.back
+step_lower pool ok at live k crossing x y next goes =
+    let f = ok.tree at.front live.0 in
+    let g = ok.tree at.back live.1 in
+    goes_lower pool ok k x y at next f.0 g.0 f.1 g.1 goes (crossing f.0 g.0 f.1 g.1)
+
+-- and live
+pub goes_live : (pool : Slots) → AreTrees pool → (at : Places) → AreLive pool at → (k : ℕ) (x y : Bool) (next : Places) → GoesOn pool k x y at next → AreLive pool next
+goes_live pool ok at live k x y next goes =
+    let f = ok.tree at.front live.0 in
+    let g = ok.tree at.back live.1 in
+    (stands_live pool next.front (side_tree k x f.0) (goes.front_stands f.0 f.1), stands_live pool next.back (side_tree k y g.0) (goes.back_stands g.0 g.1))
 
 -- ---- one sheet, or two, in place of a sheet
 less_by_one : (r s old new : ℕ) → new ≡ old + r → r < s → new < old + s
@@ -106,6 +112,7 @@ module _ (pool : Slots) (planes : List BookPlane) (s : Sheet) where
   pub record IsRest (r : Sheet) : Type 0 where
     pub sheet : (t : Tree) → IsFit planes t → IsSheetOf pool planes t s → IsSheetOf pool planes t r
     pub same_support : r.frag.support ≡ s.frag.support
+    pub safe : IsSafe pool planes s → IsSafe pool planes r
 
   pub one_divided : (r : Sheet) (old new : List Sheet) → new ≡ old ++ r ∷ [] → IsRest r
       → ((t : Tree) (id : PlaneId) (p : Point) (d : ℕ) → IsFit planes t → IsSheetOf pool planes t s → IsAloneOn planes t id p → in_frag planes d p r.frag ≡ in_frag planes d p s.frag)
@@ -114,6 +121,7 @@ module _ (pool : Slots) (planes : List BookPlane) (s : Sheet) where
     sheets = λ t fit is all. subst (All (IsSheetOf pool planes t)) (sym e) (All-push (IsSheetOf pool planes t) old r all (rest.sheet t fit is));
     wait = λ t id p d fit is alone. ap (waiting planes d p) e ∙ sum_by_push (λ x. in_frag planes d p x.frag) old r ∙ ap (λ n. waiting planes d p old + n) (same t id p d fit is alone);
     support = λ id on all. subst (All (IsOnSupport id)) (sym e) (All-push (IsOnSupport id) old r all (rest.same_support ∙ on));
+    safe = λ is all. subst (All (IsSafe pool planes)) (sym e) (All-push (IsSafe pool planes) old r all (rest.safe is));
     lower = less_by_one (sheet_weight pool r) (sheet_weight pool s) (sheets_weight pool old) (sheets_weight pool new) (ap (sheets_weight pool) e ∙ sum_by_push (sheet_weight pool) old r) less;
   }
 
@@ -131,6 +139,9 @@ module _ (pool : Slots) (planes : List BookPlane) (s : Sheet) where
     support = λ id on all.
         let P = IsOnSupport id in
         subst (All P) (sym f) (All-push P mid q (subst (All P) (sym e) (All-push P old r all (rest.same_support ∙ on))) (more.same_support ∙ on));
+    safe = λ is all.
+        let P = IsSafe pool planes in
+        subst (All P) (sym f) (All-push P mid q (subst (All P) (sym e) (All-push P old r all (rest.safe is))) (more.safe is));
     lower = less_by_two (sheet_weight pool r) (sheet_weight pool q) (sheet_weight pool s) (sheets_weight pool old) (sheets_weight pool mid) (sheets_weight pool new) (ap (sheets_weight pool) e ∙ sum_by_push (sheet_weight pool) old r)
         (ap (sheets_weight pool) f ∙ sum_by_push (sheet_weight pool) mid q) less;
   }
@@ -142,8 +153,9 @@ beside_own pool planes t s is k own side h p given alone i =
     let same : s.frag.support.k ≡ h.k = alone_number planes t h s.frag.support p alone is.support i.0 in
     (i, subst (λ n. Side side (value (plane_at planes (record { k = n })) (neighbour side (plane_at planes h) p))) (sym (own ∙ same)) (side_own planes side h p given alone.on))
 
-pub own_rest : (pool : Slots) (planes : List BookPlane) (s : Sheet) (k : ℕ) → k ≡ s.frag.support.k → (next : Places) → GoesOn pool k true false s.places next → IsRest pool planes s (record { frag = s.frag; places = next })
-own_rest pool planes s k own next goes = record {
+pub own_rest : (pool : Slots) → AreTrees pool → (planes : List BookPlane) (s : Sheet) (k : ℕ) → k ≡ s.frag.support.k → (next : Places) → GoesOn pool k true false s.places next → IsRest pool planes s (record { frag = s.frag; places = next })
+own_rest pool ok planes s k own next goes = record {
+  safe = λ safe. record { fragment = safe.fragment; live = goes_live pool ok s.places safe.live k true false next goes };
   sheet = λ t fit is. record {
     fragment = is.fragment;
     support = is.support;
@@ -157,10 +169,11 @@ own_rest pool planes s k own next goes = record {
 }
 
 -- ---- a part of a sheet on one side of another plane
-pub part_rest : (pool : Slots) (planes : List BookPlane) (s : Sheet) (by : PlaneId) (keep : Bool) → IsCrossing pool s.places by.k → (g : Frag) → IsFragment planes g → g.support ≡ s.frag.support
+pub part_rest : (pool : Slots) → AreTrees pool → (planes : List BookPlane) (s : Sheet) (by : PlaneId) (keep : Bool) → IsCrossing pool s.places by.k → (g : Frag) → IsFragment planes g → g.support ≡ s.frag.support
     → AreEdgesOf s.frag (record { plane = by; keep_front = keep }) g → IsPartOf planes g s.frag (kept_side keep (plane_at planes by)) → (next : Places) → GoesOn pool by.k keep keep s.places next
     → IsRest pool planes s (record { frag = g; places = next })
-part_rest pool planes s by keep crossing g fragment same edges part next goes = record {
+part_rest pool ok planes s by keep crossing g fragment same edges part next goes = record {
+  safe = λ safe. record { fragment = fragment; live = goes_live pool ok s.places safe.live by.k keep keep next goes };
   sheet = λ t fit is.
       let plane = met_is_plane pool planes t s by.k is crossing in
       let Old : Edge → Type 0 = λ e. Contains s.frag.edges.items e ⊎ (e ≡ record { plane = by; keep_front = keep }) in
@@ -284,6 +297,8 @@ module _ (pool : Slots) (ok : AreTrees pool) (planes : List BookPlane) (s : Shee
         ∙ adds_none (seen planes side p found) (waiting planes (due_at planes t h side p) p sheets) (in_frag planes (due_at planes t h side p) p s.frag)
         (none_shown same t is h p side given alone (holds planes s.frag p) refl);
     support = λ id on all. all;
+    safe = λ is all. all;
+    fragments = λ is all. subst (All (IsFragmentFace planes)) (sym e) all;
     on_plane = λ id on all. subst (All (IsFaceOnPlane id)) (sym e) all;
     lower = lower_all (sheets_weight pool sheets) (sheet_weight pool s) (weight_some (rank_at pool s.places.front + rank_at pool s.places.back));
   }
@@ -299,6 +314,8 @@ module _ (pool : Slots) (ok : AreTrees pool) (planes : List BookPlane) (s : Shee
             adds_one (seen planes side p found) (seen planes side p faces) (waiting planes (due_at planes t h side p) p sheets) (in_frag planes (due side (not b) b) p s.frag) (in_frag planes (due_at planes t h side p) p s.frag)
             (ap (seen planes side p) e ∙ sum_by_push (λ x. in_frag planes (due side (not x.front_out) x.front_out) p x.frag) found o) (one_shown differ t is h p side given alone (holds planes s.frag p) refl);
         support = λ id on all. all;
+        safe = λ is all. all;
+        fragments = λ is all. subst (All (IsFragmentFace planes)) (sym e) (All-push (IsFragmentFace planes) found o all is.fragment);
         on_plane = λ id on all. subst (All (IsFaceOnPlane id)) (sym e) (All-push (IsFaceOnPlane id) found o all on);
         lower = lower_all (sheets_weight pool sheets) (sheet_weight pool s) (weight_some (rank_at pool s.places.front + rank_at pool s.places.back));
       }
@@ -324,5 +341,23 @@ divided_turn pool planes s old new found d = record {
   shown = λ t h p side fit given is alone. ap (λ n. seen planes side p found + n) (d.wait t h p (due_at planes t h side p) fit is alone);
   support = d.support;
   on_plane = λ id on all. all;
+  safe = d.safe;
+  fragments = λ is all. all;
   lower = d.lower;
 }
+
+-- no tree of the book's planes meets one that the book does not have
+pub dropped_turn : (pool : Slots) (planes : List BookPlane) (s : Sheet) (k : ℕ) → IsCrossing pool s.places k → (k < length planes → ⊥) → (sheets : List Sheet) (found : List OutFace) → IsTurn pool planes s sheets sheets found found
+dropped_turn pool planes s k crossing out sheets found = record {
+  sheets = λ t fit is all. all;
+  are_faces = λ t fit is all. all;
+  shown = λ t h p side fit given is alone. absurd (out (fit.of_book k (met_is_plane pool planes t s k is crossing)));
+  support = λ id on all. all;
+  on_plane = λ id on all. all;
+  safe = λ is all. all;
+  fragments = λ is all. all;
+  lower = more_than (sheets_weight pool sheets) (sheet_weight pool s) (weight_some (rank_at pool s.places.front + rank_at pool s.places.back));
+}
+  where
+    more_than : (w n : ℕ) → 1 ≤ n → w < w + n
+    more_than w n h = omega arith

@@ -104,14 +104,8 @@ walk_ends pool planes t only path visits faces e walk = record {
 }
 
 -- ---- what the public calls say
-pub fit : (pool : Slots) (planes : List BookPlane) (id : TreeId) → AreDistinct planes → BeginsWithWalls planes → ((t : Tree) → StandsFor pool id t → IsOfBook planes t) → ((t : Tree) → StandsFor pool id t → IsTight planes t)
-    → (t : Tree) → StandsFor pool id t → IsFit planes t
-fit pool planes id distinct walls of_book tight t stands = record { distinct = distinct; walls = walls; of_book = of_book t stands; tight = tight t stands }
-
-pub some_fit : (pool : Slots) (planes : List BookPlane) (id : TreeId) → AreTrees pool → IsLive pool id → ((t : Tree) → StandsFor pool id t → IsFit planes t) → (t : Tree) × StandsFor pool id t × IsFit planes t
-some_fit pool planes id trees live fits =
-    let t = trees.tree id live in
-    (t.0, t.1, fits t.0 t.1)
+pub fit : (planes : List BookPlane) (t : Tree) → AreDistinct planes → BeginsWithWalls planes → IsOfBook planes t → IsTight planes t → IsFit planes t
+fit planes t distinct walls of_book tight = record { distinct = distinct; walls = walls; of_book = of_book; tight = tight }
 
 number_itself : (k : ℕ) → nat_eq k k ≡ true
 number_itself k = eq-eqb k k refl

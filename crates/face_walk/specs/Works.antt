@@ -85,6 +85,11 @@ pub record IsSheetOf (pool : Slots) (planes : List BookPlane) (t : Tree) (s : Sh
   pub front : IsPlace pool planes t (IsInside planes s.frag) true s.places.front
   pub back : IsPlace pool planes t (IsInside planes s.frag) false s.places.back
 
+-- what a step needs of a sheet, whatever the tree
+pub record IsSafe (pool : Slots) (planes : List BookPlane) (s : Sheet) : Type 0 where
+  pub fragment : IsFragment planes s.frag
+  pub live : AreLive pool s.places
+
 -- ---- how often a side is shown at a point, outside
 -- by the values in front and behind
 abbrev pub due : Bool → Bool → Bool → ℕ
@@ -127,11 +132,15 @@ IsOnSupport id s = s.frag.support ≡ id
 abbrev pub IsFaceOnPlane : PlaneId → OutFace → Type 0
 IsFaceOnPlane id o = o.frag.support ≡ id
 
+abbrev pub IsFragmentFace : List BookPlane → OutFace → Type 0
+IsFragmentFace planes o = IsFragment planes o.frag
+
 -- the parts of a sheet wait in its place
 pub record IsDivided (pool : Slots) (planes : List BookPlane) (sheet : Sheet) (old new : List Sheet) : Type 0 where
   pub sheets : (t : Tree) → IsFit planes t → IsSheetOf pool planes t sheet → All (IsSheetOf pool planes t) old → All (IsSheetOf pool planes t) new
   pub wait : (t : Tree) (id : PlaneId) (p : Point) (d : ℕ) → IsFit planes t → IsSheetOf pool planes t sheet → IsAloneOn planes t id p → waiting planes d p new ≡ waiting planes d p old + in_frag planes d p sheet.frag
   pub support : (id : PlaneId) → IsOnSupport id sheet → All (IsOnSupport id) old → All (IsOnSupport id) new
+  pub safe : IsSafe pool planes sheet → All (IsSafe pool planes) old → All (IsSafe pool planes) new
   pub lower : sheets_weight pool new < sheets_weight pool old + sheet_weight pool sheet
 
 -- the fragment between two leaves is a face where their values differ
@@ -147,6 +156,8 @@ pub record IsTurn (pool : Slots) (planes : List BookPlane) (sheet : Sheet) (old 
       ≡ seen planes side p found + (waiting planes (due_at planes t id side p) p old + in_frag planes (due_at planes t id side p) p sheet.frag)
   pub support : (id : PlaneId) → IsOnSupport id sheet → All (IsOnSupport id) old → All (IsOnSupport id) new
   pub on_plane : (id : PlaneId) → IsOnSupport id sheet → All (IsFaceOnPlane id) found → All (IsFaceOnPlane id) faces
+  pub safe : IsSafe pool planes sheet → All (IsSafe pool planes) old → All (IsSafe pool planes) new
+  pub fragments : IsSafe pool planes sheet → All (IsFragmentFace planes) found → All (IsFragmentFace planes) faces
   pub lower : sheets_weight pool new < sheets_weight pool old + sheet_weight pool sheet
 
 -- the faces of a sheet are found
@@ -155,6 +166,7 @@ pub record AddsFaces (pool : Slots) (planes : List BookPlane) (sheet : Sheet) (o
   pub shown : (t : Tree) (id : PlaneId) (p : Point) (side : Bool) → IsFit planes t → id.k < length planes → IsSheetOf pool planes t sheet → IsAloneOn planes t id p
       → seen planes side p new ≡ seen planes side p old + in_frag planes (due_at planes t id side p) p sheet.frag
   pub on_plane : (id : PlaneId) → IsOnSupport id sheet → All (IsFaceOnPlane id) old → All (IsFaceOnPlane id) new
+  pub fragments : All (IsFragmentFace planes) old → All (IsFragmentFace planes) new
 
 -- ---- trees whose walk waits
 -- whether the point lies strictly on the kept side of each step
@@ -179,6 +191,14 @@ pub record IsVisitAt (pool : Slots) (planes : List BookPlane) (t : Tree) (steps 
 
 abbrev pub IsVisitOf : Slots → List BookPlane → Tree → List Step → Visit → Type 0
 IsVisitOf pool planes t path v = IsVisitAt pool planes t (steps_of path v) v.id
+
+-- what a step needs of a walk that waits, whatever the tree
+pub record IsSafeVisit (pool : Slots) (planes : List BookPlane) (v : Visit) : Type 0 where
+  pub live : IsLive pool v.id
+  pub given : v.step.plane.k < length planes
+
+abbrev pub IsPathOf : List BookPlane → List Step → Type 0
+IsPathOf planes path = All (λ s. s.plane.k < length planes) path
 
 -- what the walks that wait have to show
 abbrev pub pending : List BookPlane → ℕ → Point → List Step → List Visit → ℕ
@@ -210,6 +230,7 @@ pub record AddsOwn (pool : Slots) (planes : List BookPlane) (only : Option Plane
       → IsVisitAt pool planes t steps id → IsAloneOn planes t h p
       → seen planes side p new ≡ seen planes side p old + cond (nat_eq plane.k h.k) (in_path planes (due_at planes t h side p) p steps) 0
   pub on_plane : (id : PlaneId) → IsSoughtOnly only id → All (IsFaceOnPlane id) old → All (IsFaceOnPlane id) new
+  pub fragments : All (IsFragmentFace planes) old → All (IsFragmentFace planes) new
 
 -- a tree is walked one step: the faces of its top's plane are found, if they are sought, and the walks of the parts wait
 pub record IsOpened (pool : Slots) (planes : List BookPlane) (only : Option PlaneId) (path : List Step) (id : TreeId) (old new : List Visit) (found faces : List OutFace) : Type 0 where
@@ -219,6 +240,8 @@ pub record IsOpened (pool : Slots) (planes : List BookPlane) (only : Option Plan
       → seen planes side p faces + pending planes (due_at planes t h side p) p path new
       ≡ seen planes side p found + (pending planes (due_at planes t h side p) p path old + in_path planes (due_at planes t h side p) p path)
   pub on_plane : (h : PlaneId) → IsSoughtOnly only h → All (IsFaceOnPlane h) found → All (IsFaceOnPlane h) faces
+  pub fragments : All (IsFragmentFace planes) found → All (IsFragmentFace planes) faces
+  pub safe : All (IsSafeVisit pool planes) old → All (IsSafeVisit pool planes) new
   pub stacked : AreStacked (length path) old → AreStacked (length path) new
   pub lower : visits_weight pool new < visits_weight pool old + weight_of (rank_at pool id)
 

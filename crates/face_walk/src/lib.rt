@@ -4,6 +4,8 @@
 mod faces;
 mod lower;
 mod places;
+#[cfg(test)]
+mod tests;
 mod visits;
 mod walk;
 mod work;

@@ -1,7 +1,6 @@
-ghost use Rattle.std.specs.Prelude.{◌≡◌, ◌≢◌, List, OnOk};
+ghost use Rattle.std.specs.Prelude.{◌≡◌, ◌≢◌, ◌<◌, length, List, OnOk};
 ghost use Rattle.plane_core.specs.declared.numbers.Plane.{Plane};
-ghost use Rattle.tree_pool.specs.Trees.{Tree};
-ghost use Rattle.face_walk.specs.Works.{IsCrossing, IsFit, IsSheetOf, IsDivided, IsSettled, IsTurn, AddsFaces};
+ghost use Rattle.face_walk.specs.Works.{IsCrossing, AreLive, IsSafe, IsDivided, IsSettled, IsTurn, AddsFaces};
 
 use crate::faces::OutFace;
 use crate::work::{Meeting, Places, Sheet};
@@ -36,7 +35,7 @@ fn pass_own(
     plane: PlaneId,
     sheets: &mut Vec<Sheet>,
 ) -> Result<(), AllocError>
-    requires sheet { (planes : List Plane) × (t : Tree) × IsFit planes t × IsSheetOf pool.now planes t sheet }
+    requires live { AreLive pool.now sheet.places }
     requires own { plane.k ≡ sheet.frag.support.k }
     requires crossing { IsCrossing pool.now sheet.places plane.k }
     ensures divided { OnOk result ((planes : List Plane) → IsDivided pool.now planes sheet sheets.old.items sheets.new.items) }
@@ -56,7 +55,8 @@ fn cut(
     plane: PlaneId,
     sheets: &mut Vec<Sheet>,
 ) -> Result<(), AllocError>
-    requires sheet { (t : Tree) × IsFit book.now t × IsSheetOf pool.now book.now t sheet.now }
+    requires safe { IsSafe pool.now book.now sheet.now }
+    requires given { plane.k < length book.now }
     requires other { plane.k ≢ sheet.now.frag.support.k }
     requires crossing { IsCrossing pool.now sheet.now.places plane.k }
     ensures divided { OnOk result (IsDivided pool.now book.now sheet.now sheets.old.items sheets.new.items) }
@@ -90,7 +90,7 @@ fn cut(
     Ok(())
 }
 
-/// Takes a sheet one step down. The error is want of memory.
+/// Takes a sheet one step down. A plane that the book does not have gives no faces. The error is want of memory.
 fn turn(
     alloc: Global,
     book: &PlaneBook,
@@ -99,12 +99,15 @@ fn turn(
     sheets: &mut Vec<Sheet>,
     faces: &mut Vec<OutFace>,
 ) -> Result<(), AllocError>
-    requires sheet { (t : Tree) × IsFit book.now t × IsSheetOf pool.now book.now t sheet }
+    requires safe { IsSafe pool.now book.now sheet }
     ensures turn { OnOk result (IsTurn pool.now book.now sheet sheets.old.items sheets.new.items faces.old.items faces.new.items) }
 {
     match sheet.places.meeting(pool) {
         Meeting::Leaves { in_front, behind } => settle(sheet.frag, in_front, behind, faces),
         Meeting::Crossing { plane } => {
+            if plane.k as usize >= book.count() {
+                return Ok(());
+            }
             if plane.k == sheet.frag.support.k {
                 return pass_own(pool, sheet, plane, sheets);
             }
@@ -122,7 +125,7 @@ pub(crate) fn add_faces(
     sheet: Sheet,
     faces: &mut Vec<OutFace>,
 ) -> Result<(), AllocError>
-    requires sheet { (t : Tree) × IsFit book.now t × IsSheetOf pool.now book.now t sheet }
+    requires safe { IsSafe pool.now book.now sheet }
     ensures added { OnOk result (AddsFaces pool.now book.now sheet faces.old.items faces.new.items) }
 {
     let mut sheets = Vec::new(alloc);

@@ -1,9 +1,9 @@
-ghost use Rattle.std.specs.Prelude.{◌≡◌, ◌<◌, ◌++◌, [], ◌∷◌, Some, length, IfOk, OnOk};
+ghost use Rattle.std.specs.Prelude.{◌≡◌, ◌<◌, ◌++◌, [], ◌∷◌, Some, length, All, IfOk, OnOk};
 ghost use Rattle.tree_pool.specs.Trees.{Tree};
 ghost use Rattle.tree_pool.specs.Pools.{StandsFor, IsLive, node_at};
 ghost use Rattle.tree_pool.specs.declared.node.TreeId.{TreeId};
 ghost use Rattle.tree_pool.specs.declared.node.PoolNode.TheVariants.{Node};
-ghost use Rattle.face_walk.specs.Works.{is_sought, IsFit, IsVisitAt, AddsOwn, IsOpened, IsWalked, waiting_visit};
+ghost use Rattle.face_walk.specs.Works.{AreLive, is_sought, IsPathOf, IsFit, IsFragmentFace, AddsOwn, IsOpened, IsWalked, waiting_visit};
 
 use crate::faces::OutFace;
 use crate::lower::add_faces;
@@ -35,7 +35,9 @@ fn add_own_faces(
     children: Places,
     faces: &mut Vec<OutFace>,
 ) -> Result<(), AllocError>
-    requires visit { (t : Tree) × (id : TreeId) × IsFit book.now t × (node_at pool.now id ≡ Some (Node plane children.front children.back)) × IsVisitAt pool.now book.now t path.now id }
+    requires path { IsPathOf book.now path.now }
+    requires given { plane.k < length book.now }
+    requires live { AreLive pool.now children }
     ensures added { OnOk result (AddsOwn pool.now book.now only path.now plane children.front children.back faces.old.items faces.new.items) }
 {
     if !seeks(only, plane) {
@@ -80,7 +82,7 @@ fn wait(
 }
 
 /// Walks a tree one step, with the path to it: adds the faces on the plane of its top, if they are sought, and lets the walks
-/// of its parts wait. The error is want of memory.
+/// of its parts wait. A plane that the book does not have gives no faces. The error is want of memory.
 fn open(
     alloc: Global,
     book: &PlaneBook,
@@ -91,12 +93,16 @@ fn open(
     visits: &mut Vec<Visit>,
     faces: &mut Vec<OutFace>,
 ) -> Result<(), AllocError>
-    requires visit { (t : Tree) × IsFit book.now t × IsVisitAt pool.now book.now t path.now id }
+    requires path { IsPathOf book.now path.now }
+    requires live { IsLive pool.now id }
     ensures opened { OnOk result (IsOpened pool.now book.now only path.now id visits.old.items visits.new.items faces.old.items faces.new.items) }
 {
     match pool.get(id) {
         PoolNode::Leaf(_) => Ok(()),
         PoolNode::Node { plane, front, back } => {
+            if plane.k as usize >= book.count() {
+                return Ok(());
+            }
             let children = Places { front, back };
             add_own_faces(alloc, book, pool, only, path, plane, children, faces)?;
             wait(path.len(), plane, children, visits)
@@ -112,7 +118,8 @@ pub(crate) fn walk(
     id: TreeId,
     only: Option<PlaneId>,
 ) -> Result<Vec<OutFace>, AllocError>
-    requires fit { (t : Tree) × StandsFor pool.now id t × IsFit book.now t }
+    requires live { IsLive pool.now id }
+    ensures fragments { IfOk result (λ faces. All (IsFragmentFace book.now) faces.items) }
     ensures walked { IfOk result (λ faces. (t : Tree) → StandsFor pool.now id t → IsFit book.now t → IsWalked book.now t only faces.items) }
 {
     let mut path = Vec::new(alloc);

@@ -1,4 +1,5 @@
-ghost use Rattle.std.specs.Prelude.{◌<◌, length, IfOk};
+ghost use Rattle.std.specs.Prelude.{◌<◌, length, All, IfOk};
+ghost use Rattle.poly_frag.specs.Cycles.{IsFragment};
 ghost use Rattle.tree_pool.specs.Trees.{Tree};
 ghost use Rattle.tree_pool.specs.Pools.{IsLive, StandsFor};
 ghost use Rattle.face_walk.specs.Faces.{IsOfBook, IsTight, AreFacesOn, AreFacesOf};
@@ -10,8 +11,8 @@ use std::alloc::{AllocError, Global};
 use tree_pool::{Pool, TreeId};
 
 /// The faces of a tree on one plane of the book (a rule of this project): pieces of the plane across which the value of the
-/// tree changes, each with the side that is outside. The planes of the tree are in the book, and strictly inside the enclosing
-/// cube the tree is false where a coordinate has a size above 1048576 grid steps. The error is want of memory.
+/// tree changes, each with the side that is outside. This is said of trees whose planes are in the book, and which are false
+/// where a coordinate has a size above 1048576 grid steps, strictly inside the enclosing cube. The error is want of memory.
 pub fn faces_on(
     alloc: Global,
     book: &PlaneBook,
@@ -20,17 +21,16 @@ pub fn faces_on(
     plane: PlaneId,
 ) -> Result<Vec<OutFace>, AllocError>
     requires live { IsLive pool.now tree }
-    requires of_book { (t : Tree) → StandsFor pool.now tree t → IsOfBook book.now t }
-    requires tight { (t : Tree) → StandsFor pool.now tree t → IsTight book.now t }
     requires given { plane.k < length book.now }
-    ensures faces { IfOk result (λ faces. (t : Tree) → StandsFor pool.now tree t → AreFacesOn book.now t plane faces.items) }
+    ensures fragments { IfOk result (λ faces. All (λ o. IsFragment book.now o.frag) faces.items) }
+    ensures faces { IfOk result (λ faces. (t : Tree) → StandsFor pool.now tree t → IsOfBook book.now t → IsTight book.now t → AreFacesOn book.now t plane faces.items) }
 {
     let _planes = book.count();
     let _trees = pool.count();
     walk(alloc, book, pool, tree, Some(plane))
 }
 
-/// The faces of a tree on all planes, in the order of the planes in the book, under the conditions of `faces_on`. The planes of
+/// The faces of a tree on all planes, in the order of the planes in the book, with the words of `faces_on`. The planes of
 /// the enclosing cube have none. The error is want of memory.
 pub fn all_faces(
     alloc: Global,
@@ -39,9 +39,8 @@ pub fn all_faces(
     tree: TreeId,
 ) -> Result<Vec<OutFace>, AllocError>
     requires live { IsLive pool.now tree }
-    requires of_book { (t : Tree) → StandsFor pool.now tree t → IsOfBook book.now t }
-    requires tight { (t : Tree) → StandsFor pool.now tree t → IsTight book.now t }
-    ensures faces { IfOk result (λ faces. (t : Tree) → StandsFor pool.now tree t → AreFacesOf book.now t faces.items) }
+    ensures fragments { IfOk result (λ faces. All (λ o. IsFragment book.now o.frag) faces.items) }
+    ensures faces { IfOk result (λ faces. (t : Tree) → StandsFor pool.now tree t → IsOfBook book.now t → IsTight book.now t → AreFacesOf book.now t faces.items) }
 {
     let _planes = book.count();
     let _trees = pool.count();

@@ -253,6 +253,7 @@ module _ (pool : Slots) (planes : List BookPlane) (only : Option PlaneId) (steps
         adds_none (seen planes side p faces) (cond (nat_eq plane.k h.k) (in_path planes (due_at planes t h side p) p steps) 0)
         (unsought none h sought (in_path planes (due_at planes t h side p) p steps) (nat_eq plane.k h.k) refl);
     on_plane = λ id only_id all. all;
+    fragments = λ all. all;
   }
 
   pub own_none : (HasPointOn planes steps (plane_at planes plane) → ⊥) → (faces : List OutFace) → AddsOwn pool planes only steps plane i j faces faces
@@ -262,6 +263,7 @@ module _ (pool : Slots) (planes : List BookPlane) (only : Option PlaneId) (steps
         adds_none (seen planes side p faces) (cond (nat_eq plane.k h.k) (in_path planes (due_at planes t h side p) p steps) 0)
         (none_due pool planes t fit steps id visit plane i j at none h p alone (due_at planes t h side p));
     on_plane = λ id only_id all. all;
+    fragments = λ all. all;
   }
 
   sought_one : (id : PlaneId) → IsSoughtOnly only id → is_sought only plane ≡ true → id.k ≡ plane.k
@@ -277,5 +279,6 @@ module _ (pool : Slots) (planes : List BookPlane) (only : Option PlaneId) (steps
     shown = λ t id h p side fit given sought_h at visit alone.
         added.shown t h p side fit given (own_sheet pool planes t fit steps id visit plane i j at f polygon) alone
         ∙ ap (λ n. seen planes side p found + n) (own_held pool planes t fit steps id visit plane i j at f polygon h p alone (due_at planes t h side p));
+    fragments = added.fragments;
     on_plane = λ id only_id all. added.on_plane id (polygon.support ∙ sym (same_id id plane (sought_one id only_id sought))) all;
   }
