@@ -15,15 +15,15 @@ use Rattle.face_walk.specs.Works.{IsFit, IsSheetOf, IsSafe, due_at, in_frag, see
 
 -- what was found of a sheet, and the parts that wait
 pub record IsDown (pool : Slots) (planes : List BookPlane) (t : Tree) (whole : Sheet) (old : List OutFace) (sheets : List Sheet) (faces : List OutFace) : Type 0 where
-  pub sheets : All (IsSheetOf pool planes t) sheets
+  pub parts : All (IsSheetOf pool planes t) sheets
   pub are_faces : All (IsFace planes t) old → All (IsFace planes t) faces
   pub shown : (id : PlaneId) (p : Point) (side : Bool) → id.k < length planes → IsAloneOn planes t id p
       → seen planes side p faces + waiting planes (due_at planes t id side p) p sheets ≡ seen planes side p old + in_frag planes (due_at planes t id side p) p whole.frag
 
 -- and all of it lies on the sheet's plane
 pub record IsOnPlane (id : PlaneId) (old : List OutFace) (sheets : List Sheet) (faces : List OutFace) : Type 0 where
-  pub sheets : All (IsOnSupport id) sheets
-  pub faces : All (IsFaceOnPlane id) old → All (IsFaceOnPlane id) faces
+  pub parts : All (IsOnSupport id) sheets
+  pub on_plane : All (IsFaceOnPlane id) old → All (IsFaceOnPlane id) faces
 
 -- the items of a list and its last item
 last_of : {X : Type 0} (P : X → Type 0) (waits rest : List X) (x : X) → waits ≡ rest ++ x ∷ [] → All P waits → All P rest × P x
@@ -43,7 +43,7 @@ last_sum x y w e f = omega arith
 module _ (pool : Slots) (planes : List BookPlane) (whole : Sheet) (old : List OutFace) where
   pub down_begins : (none sheets : List Sheet) → none ≡ [] → sheets ≡ none ++ whole ∷ [] → (t : Tree) → IsSheetOf pool planes t whole → IsDown pool planes t whole old sheets old
   down_begins none sheets e f t is = record {
-    sheets = only_one (IsSheetOf pool planes t) none sheets whole e f is;
+    parts = only_one (IsSheetOf pool planes t) none sheets whole e f is;
     are_faces = λ all. all;
     shown = λ id p side given alone.
         let d = due_at planes t id side p in
@@ -55,14 +55,14 @@ module _ (pool : Slots) (planes : List BookPlane) (whole : Sheet) (old : List Ou
   safe_begins none sheets e f is = only_one (IsSafe pool planes) none sheets whole e f is
 
   pub on_begins : (none sheets : List Sheet) → none ≡ [] → sheets ≡ none ++ whole ∷ [] → (id : PlaneId) → IsOnSupport id whole → IsOnPlane id old sheets old
-  on_begins none sheets e f id on = record { sheets = only_one (IsOnSupport id) none sheets whole e f on; faces = λ all. all }
+  on_begins none sheets e f id on = record { parts = only_one (IsOnSupport id) none sheets whole e f on; on_plane = λ all. all }
 
   module _ (waits rest new : List Sheet) (s : Sheet) (found faces : List OutFace) (popped : waits ≡ rest ++ s ∷ []) where
     pub down_goes_on : IsTurn pool planes s rest new found faces → (t : Tree) → IsFit planes t → IsDown pool planes t whole old waits found → IsDown pool planes t whole old new faces
     down_goes_on turn t fit down =
-        let parts = last_of (IsSheetOf pool planes t) waits rest s popped down.sheets in
+        let parts = last_of (IsSheetOf pool planes t) waits rest s popped down.parts in
         record {
-          sheets = turn.sheets t fit parts.1 parts.0;
+          parts = turn.sheets t fit parts.1 parts.0;
           are_faces = λ all. turn.are_faces t fit parts.1 (down.are_faces all);
           shown = λ id p side given alone.
               let d = due_at planes t id side p in
@@ -73,8 +73,8 @@ module _ (pool : Slots) (planes : List BookPlane) (whole : Sheet) (old : List Ou
 
     pub on_goes_on : IsTurn pool planes s rest new found faces → (id : PlaneId) → IsOnPlane id old waits found → IsOnPlane id old new faces
     on_goes_on turn id on =
-        let parts = last_of (IsOnSupport id) waits rest s popped on.sheets in
-        record { sheets = turn.support id parts.1 parts.0; faces = λ all. turn.on_plane id parts.1 (on.faces all) }
+        let parts = last_of (IsOnSupport id) waits rest s popped on.parts in
+        record { parts = turn.support id parts.1 parts.0; on_plane = λ all. turn.on_plane id parts.1 (on.on_plane all) }
 
     pub safe_next : All (IsSafe pool planes) waits → IsSafe pool planes s
     safe_next all = (last_of (IsSafe pool planes) waits rest s popped all).1
@@ -98,5 +98,5 @@ module _ (pool : Slots) (planes : List BookPlane) (whole : Sheet) (old : List Ou
     shown = λ t id p side fit given is alone.
         let d = due_at planes t id side p in
         last_sum (seen planes side p faces) (seen planes side p old + in_frag planes d p whole.frag) (waiting planes d p sheets) (ap (waiting planes d p) e) ((down t fit is).shown id p side given alone);
-    on_plane = λ id is. (on id is).faces;
+    on_plane = λ id is. (on id is).on_plane;
   }

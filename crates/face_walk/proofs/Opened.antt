@@ -1,7 +1,8 @@
 -- One step of a walk, and the walk's paths.
-use Rattle.std.proofs.Common.{◌≡◌, ◌≢◌, ◌⊎◌, inl, inr, ◌<◌, ◌≤◌, ◌+◌, ℕ, zero, suc, max, length, take, take-length, get_or, Bool, true, false, cond, List, [], ◌∷◌, ◌++◌, append_assoc, Option, Some, All, refl, sym, ap, ap₂, subst, ◌∙◌, arith, true≢false}
+use Rattle.std.proofs.Common.{◌≡◌, ◌≢◌, ◌⊎◌, inl, inr, ◌<◌, ◌≤◌, ◌+◌, ℕ, zero, suc, max, length, take, get_or, Bool, true, false, cond, List, [], ◌∷◌, ◌++◌, append_assoc, Option, Some, All, refl, sym, ap, ap₂, subst, ◌∙◌, arith, true≢false}
 use Rattle.std.specs.Prelude.{sum_by, nat_eq}
 use Rattle.std.specs.List.{AllPairs}
+use Rattle.std.proofs.Math.Seq.{take-length}
 use Rattle.std.proofs.lemmas.List.{take-append-le, length-take-le, length_push}
 use Rattle.std.proofs.lemmas.List.Sums.{sum_by_push, sum_by-cons}
 use Rattle.std.proofs.lemmas.List.Elements.{All-nil, All-push, All-take}
@@ -186,7 +187,7 @@ pending_same planes d p path v k (u ∷ us) h =
 -- ---- the walk so far
 -- what it has found, and what is still to be walked, with its path
 pub record IsWalk (pool : Slots) (planes : List BookPlane) (t : Tree) (only : Option PlaneId) (path : List Step) (visits : List Visit) (faces : List OutFace) : Type 0 where
-  pub visits : All (IsVisitOf pool planes t path) visits
+  pub waits : All (IsVisitOf pool planes t path) visits
   pub are_faces : All (IsFace planes t) faces
   pub shown : (h : PlaneId) (p : Point) (side : Bool) → h.k < length planes → is_sought only h ≡ true → IsAloneOn planes t h p → seen planes side p faces + pending planes (due_at planes t h side p) p path visits ≡ due_at planes t h side p
   pub on_plane : (h : PlaneId) → IsSoughtOnly only h → All (IsFaceOnPlane h) faces
@@ -208,7 +209,7 @@ module _ (pool : Slots) (planes : List BookPlane) (t : Tree) (fit : IsFit planes
   walk_begins id stands path empty none visits no_visits before faces no_faces opened =
       let visit = subst (λ steps. IsVisitAt pool planes t steps id) (sym empty) (whole_visit pool planes t id stands) in
       record {
-        visits = opened.visits t fit visit (subst (All (IsVisitOf pool planes t path)) (sym no_visits) (All-nil (IsVisitOf pool planes t path)));
+        waits = opened.visits t fit visit (subst (All (IsVisitOf pool planes t path)) (sym no_visits) (All-nil (IsVisitOf pool planes t path)));
         are_faces = opened.are_faces t fit visit (subst (All (IsFace planes t)) (sym no_faces) (All-nil (IsFace planes t)));
         shown = λ h p side given sought alone.
             let d = due_at planes t h side p in
@@ -227,12 +228,12 @@ module _ (pool : Slots) (planes : List BookPlane) (t : Tree) (fit : IsFit planes
   walk_goes_on path next v waits rest visits found faces popped taken stacked walk opened =
       let P : Visit → Type 0 = IsVisitOf pool planes t path in
       let below = below_top (length path) rest v (subst (AreStacked (length path)) popped stacked) in
-      let all = each_split P rest (v ∷ []) (each_from_all P (rest ++ v ∷ []) (subst (All P) popped walk.visits)) in
+      let all = each_split P rest (v ∷ []) (each_from_all P (rest ++ v ∷ []) (subst (All P) popped walk.waits)) in
       let visit = subst (λ steps. IsVisitAt pool planes t steps v.id) (sym taken) all.1.0 in
       let waiting : All (IsVisitOf pool planes t next) rest = subst (λ steps. All (IsVisitOf pool planes t steps) rest) (sym taken)
           (all_from_each (IsVisitOf pool planes t (steps_of path v)) rest (visits_same pool planes t path v below.2 rest below.0 all.0)) in
       record {
-        visits = opened.visits t fit visit waiting;
+        waits = opened.visits t fit visit waiting;
         are_faces = opened.are_faces t fit visit walk.are_faces;
         shown = λ h p side given sought alone.
             let d = due_at planes t h side p in

@@ -45,7 +45,7 @@ met_is_plane pool planes t s k is crossing = elim (crossing is.front.tree is.bac
 ]
 
 -- ---- weights
-weight_some : (n : ℕ) → 1 ≤ weight_of n
+pub weight_some : (n : ℕ) → 1 ≤ weight_of n
 weight_some zero = omega arith
 weight_some (suc n) = let h = weight_some n in omega arith
 
@@ -232,7 +232,7 @@ module _ (pool : Slots) (planes : List BookPlane) (s : Sheet) (by : PlaneId) (cr
       turned x y z e = omega arith
 
 -- ---- a sheet between two leaves
-due_same : (side b : Bool) → due side b b ≡ 0
+pub due_same : (side b : Bool) → due side b b ≡ 0
 due_same true true = refl
 due_same true false = refl
 due_same false true = refl

@@ -47,10 +47,10 @@ at_most_one true false = omega arith
 at_most_one false true = omega arith
 at_most_one false false = omega arith
 
-zero_is_not_one : 0 ≡ 1 → ⊥
+zero_is_not_one : ◌≡◌ {A = ℕ} 0 1 → ⊥
 zero_is_not_one e = omega arith
 
-one_is_not_zero : 1 ≡ 0 → ⊥
+one_is_not_zero : ◌≡◌ {A = ℕ} 1 0 → ⊥
 one_is_not_zero e = omega arith
 
 too_many : (n a b x y : ℕ) → a + b ≡ suc (suc n) → a ≡ x → b ≡ y → x + y ≤ 1 → ⊥
@@ -75,10 +75,13 @@ flags_are (z ∷ w ∷ zs) x y h = absurd (too_many (length zs) (shown_as true (
 abbrev flags_at : List BookPlane → Point → List OutFace → List Bool
 flags_at planes p faces = map (λ o. o.front_out) (pieces_at planes p faces)
 
+zero_plus : (n : ℕ) → n ≡ 0 + n
+zero_plus n = omega arith
+
 seen_first : (planes : List BookPlane) (side : Bool) (p : Point) (o : OutFace) (faces : List OutFace) (held : Bool) → holds planes o.frag p ≡ held → shown_as side (flags_at planes p faces) ≡ seen planes side p faces
     → shown_as side (flags_at planes p (o ∷ faces)) ≡ cond held (due side (not o.front_out) o.front_out) 0 + seen planes side p faces
 seen_first planes side p o faces true e rest = rw e (sum_by-cons (λ z. due side (not z) z) o.front_out (flags_at planes p faces) ∙ ap (λ n. due side (not o.front_out) o.front_out + n) rest)
-seen_first planes side p o faces false e rest = rw e rest
+seen_first planes side p o faces false e rest = rw e (rest ∙ zero_plus (seen planes side p faces))
 
 seen_is : (planes : List BookPlane) (side : Bool) (p : Point) (faces : List OutFace) → shown_as side (flags_at planes p faces) ≡ seen planes side p faces
 seen_is planes side p [] = refl

@@ -13,3 +13,9 @@ returns-in-Leaves c = record {
       c.settle.new.faces.items d)
       c.settle.ensures.settled;
 }
+
+pub returns-then-plane-count : goal.returns-then-plane-count
+returns-then-plane-count c = record {
+  turn = dropped_turn c.args.pool.now c.args.book.now c.args.sheet c.in-Crossing.plane.k c.in-Crossing.ensures.meeting (past c.in-Crossing.plane.k (length c.args.book.now) c.count.result c.count.ensures.value c.if-plane-count.true)
+      c.args.sheets.now.items c.args.faces.now.items;
+}
