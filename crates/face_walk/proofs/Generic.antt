@@ -257,24 +257,24 @@ module _ (planes : List BookPlane) (distinct : AreDistinct planes) (h : PlaneId)
       sided : (o : OffPoint (plane_at planes h) (plane_at planes k) gs) → ClearPoint planes h (λ n. n ≡ k.k) gs
       sided o = elim (sign_cases (value (plane_at planes k) o.point)) [
         | inl low ↦ record {
-            sides = opposite (plane_at planes k) ∷ gs;
-            point = o.point;
-            is_point = o.is_point;
-            on = o.on;
-            within = (opposite_front (plane_at planes k) o.point low, o.within);
-            old = λ r w. w.1;
-            off = λ r w j e other. subst (λ x. value x r ≢ pos 0) (sym (number j e)) (opposite_some (value (plane_at planes k) r) (value (opposite (plane_at planes k)) r) (value-opposite (plane_at planes k) r) w.0);
-          }
+          sides = opposite (plane_at planes k) ∷ gs;
+          point = o.point;
+          is_point = o.is_point;
+          on = o.on;
+          within = (opposite_front (plane_at planes k) o.point low, o.within);
+          old = λ r w. w.1;
+          off = λ r w j e other. subst (λ x. value x r ≢ pos 0) (sym (number j e)) (opposite_some (value (plane_at planes k) r) (value (opposite (plane_at planes k)) r) (value-opposite (plane_at planes k) r) w.0);
+        }
         | inr (inl e) ↦ absurd (o.off e)
         | inr (inr high) ↦ record {
-            sides = plane_at planes k ∷ gs;
-            point = o.point;
-            is_point = o.is_point;
-            on = o.on;
-            within = (high, o.within);
-            old = λ r w. w.1;
-            off = λ r w j e other. subst (λ x. value x r ≢ pos 0) (sym (number j e)) (above_some (value (plane_at planes k) r) w.0);
-          }
+          sides = plane_at planes k ∷ gs;
+          point = o.point;
+          is_point = o.is_point;
+          on = o.on;
+          within = (high, o.within);
+          old = λ r w. w.1;
+          off = λ r w j e other. subst (λ x. value x r ≢ pos 0) (sym (number j e)) (above_some (value (plane_at planes k) r) w.0);
+        }
       ]
 
       by : (same : Bool) → nat_eq k.k h.k ≡ same → ClearPoint planes h (λ n. n ≡ k.k) gs

@@ -161,9 +161,9 @@ module _ (pool : Slots) (planes : List BookPlane) (t : Tree) (fit : IsFit planes
   child_visit keep =
       let s : Step = record { plane = plane; in_front = keep } in
       let side : (next : Bool) (h : PlaneId) (p : Point) → h.k < length planes → IsAloneOn planes t h p → IsInCell planes (steps ++ s ∷ []) p
-          → IsInCell planes steps p × Side keep (value (plane_at planes plane) (neighbour next (plane_at planes h) p)) = λ next h p given alone c.
-          let was = (points_of_part planes steps s p).0 c in
-          (was.0, side_kept planes keep next plane h p (fit.of_book plane.k own_plane) given (kept_is_side keep (plane_at planes plane) p was.1)) in
+      → IsInCell planes steps p × Side keep (value (plane_at planes plane) (neighbour next (plane_at planes h) p)) = λ next h p given alone c.
+      let was = (points_of_part planes steps s p).0 c in
+      (was.0, side_kept planes keep next plane h p (fit.of_book plane.k own_plane) given (kept_is_side keep (plane_at planes plane) p was.1)) in
       record {
         path = All-push (λ (s : Step). IsPlaneOf s.plane.k t) steps s visit.path own_plane;
         front = place_on pool planes t (IsInCell planes steps) (IsInCell planes (steps ++ s ∷ [])) true keep plane.k id (child keep i j) visit.front (child_stands pool id plane i j at keep) (side true);

@@ -231,7 +231,7 @@ module _ (pool : Slots) (planes : List BookPlane) (t : Tree) (fit : IsFit planes
       let all = each_split P rest (v ∷ []) (each_from_all P (rest ++ v ∷ []) (subst (All P) popped walk.waits)) in
       let visit = subst (λ steps. IsVisitAt pool planes t steps v.id) (sym taken) all.1.0 in
       let waiting : All (IsVisitOf pool planes t next) rest = subst (λ steps. All (IsVisitOf pool planes t steps) rest) (sym taken)
-          (all_from_each (IsVisitOf pool planes t (steps_of path v)) rest (visits_same pool planes t path v below.2 rest below.0 all.0)) in
+      (all_from_each (IsVisitOf pool planes t (steps_of path v)) rest (visits_same pool planes t path v below.2 rest below.0 all.0)) in
       record {
         waits = opened.visits t fit visit waiting;
         are_faces = opened.are_faces t fit visit walk.are_faces;
@@ -239,10 +239,10 @@ module _ (pool : Slots) (planes : List BookPlane) (t : Tree) (fit : IsFit planes
             let d = due_at planes t h side p in
             opened.shown t h p side fit given sought visit alone
             ∙ ap (λ n. seen planes side p found + n) (
-              (λ x. pending planes d p (taken x) rest + in_path planes d p (taken x))
-              ∙ ap (λ n. n + in_path planes d p (steps_of path v)) (pending_same planes d p path v below.2 rest below.0)
-              ∙ sym (sum_by_push (λ w. in_path planes d p (steps_of path w)) rest v)
-              ∙ ap (pending planes d p path) (sym popped)
+            (λ x. pending planes d p (taken x) rest + in_path planes d p (taken x))
+            ∙ ap (λ n. n + in_path planes d p (steps_of path v)) (pending_same planes d p path v below.2 rest below.0)
+            ∙ sym (sum_by_push (λ w. in_path planes d p (steps_of path w)) rest v)
+            ∙ ap (pending planes d p path) (sym popped)
             )
             ∙ walk.shown h p side given sought alone;
         on_plane = λ h only_h. opened.on_plane h only_h (walk.on_plane h only_h);

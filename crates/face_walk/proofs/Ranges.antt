@@ -186,8 +186,10 @@ module _ (planes : List BookPlane) (t : Tree) (fit : IsFit planes t) (f : Frag) 
       absurd (none_beyond g beyond (
         q,
         beside-IsPoint g p m.0 is m.1,
-        (mean_zero (pos (unsigned_abs (value g m.0) + 1)) (pos 1) p m.0 (support_of planes f) i.0 m.2.0,
-        all_from_each (In q) (sides_of planes f) (beside_within g p m.0 (sides_of planes f) (each_from_all (Touches p) (sides_of planes f) i.1) (each_from_all (In m.0) (sides_of planes f) m.2.1))),
+        (
+          mean_zero (pos (unsigned_abs (value g m.0) + 1)) (pos 1) p m.0 (support_of planes f) i.0 m.2.0,
+          all_from_each (In q) (sides_of planes f) (beside_within g p m.0 (sides_of planes f) (each_from_all (Touches p) (sides_of planes f) i.1) (each_from_all (In m.0) (sides_of planes f) m.2.1)),
+        ),
         beside_front g p m.0 high,
       )))
       (λ low. low)

@@ -179,9 +179,9 @@ part_rest pool ok planes s by keep crossing g fragment same edges part next goes
       let Old : Edge → Type 0 = λ e. Contains s.frag.edges.items e ⊎ (e ≡ record { plane = by; keep_front = keep }) in
       let New : Edge → Type 0 = λ e. IsPlaneOf e.plane.k t ⊎ (e.plane.k < 6) in
       let side : (next : Bool) (h : PlaneId) (p : Point) → h.k < length planes → IsAloneOn planes t h p → IsInside planes g p
-          → IsInside planes s.frag p × Side keep (value (plane_at planes by) (neighbour next (plane_at planes h) p)) = λ next h p given alone i.
-          let j = (part.inside p alone.is_point).0 i in
-          (j.0, side_kept planes keep next by h p (fit.of_book by.k plane) given (kept_is_side keep (plane_at planes by) p j.1)) in
+      → IsInside planes s.frag p × Side keep (value (plane_at planes by) (neighbour next (plane_at planes h) p)) = λ next h p given alone i.
+      let j = (part.inside p alone.is_point).0 i in
+      (j.0, side_kept planes keep next by h p (fit.of_book by.k plane) given (kept_is_side keep (plane_at planes by) p j.1)) in
       record {
         fragment = fragment;
         support = subst (λ (x : PlaneId). IsPlaneOf x.k t) (sym same) is.support;

@@ -4,102 +4,132 @@ ghost use Rattle.tree_pool.specs.Pools.{IsLive};
 ghost use Rattle.tree_pool.specs.declared.node.TreeId.{TreeId};
 
 use crate::{OutFace, all_faces, faces_on};
-use plane_core::{Plane, PlaneBook, PlaneId};
+use plane_core::{Corner, Plane, PlaneBook, PlaneId};
 use poly_frag::corners;
 use std::alloc::{AllocError, Global};
 use std::test::Fail;
 use tree_pool::{Pool, TreeId};
 
-/// A book with the planes x, y and z = 0, 2, 4 and 6: numbers 6 to 9 along x, 10 to 13 along y, 14 to 17 along z.
+/// A book with the planes x, y and z = 0, 2 and 4: numbers 6 to 8 along x, 9 to 11 along y, 12 to 14 along z.
 fn planes(alloc: Global) -> Result<PlaneBook, AllocError> {
     let mut book = PlaneBook::new(alloc)?;
-    for (a, b, c) in [(1, 0, 0), (0, 1, 0), (0, 0, 1)] {
-        for d in [0, 2, 4, 6] {
-            if let Some(plane) = Plane::reduced(a, b, c, d)
-                && book.count() < 1000
-            {
-                book.add(plane)?;
-            }
+    for plane in [
+        Plane::reduced(1, 0, 0, 0),
+        Plane::reduced(1, 0, 0, 2),
+        Plane::reduced(1, 0, 0, 4),
+        Plane::reduced(0, 1, 0, 0),
+        Plane::reduced(0, 1, 0, 2),
+        Plane::reduced(0, 1, 0, 4),
+        Plane::reduced(0, 0, 1, 0),
+        Plane::reduced(0, 0, 1, 2),
+        Plane::reduced(0, 0, 1, 4),
+    ] {
+        if let Some(plane) = plane
+            && book.count() < 1000
+        {
+            book.add(plane)?;
         }
     }
     Ok(book)
 }
 
-/// One tree on these sides of planes, of which the last one is looked at first, and another tree elsewhere.
+/// One tree inside a box and another one outside. The walls of the box are a low and a high one along each axis, and the walk
+/// looks at the last one first.
 fn within(
     pool: &mut Pool,
-    sides: &[(u32, bool)],
+    walls: &[u32],
     inner: TreeId,
-    other: TreeId,
+    outer: TreeId,
 ) -> Result<TreeId, AllocError>
     requires inner_live { IsLive pool.old inner }
-    requires other_live { IsLive pool.old other }
+    requires outer_live { IsLive pool.old outer }
     ensures live { IfOk result (IsLive pool.new) }
     ensures still_live { (id : TreeId) → IsLive pool.old id → IsLive pool.new id }
 {
     let mut tree = inner;
-    for (k, in_front) in sides {
-        let (front, back) = if *in_front {
-            (tree, other)
-        } else {
-            (other, tree)
-        };
+    let mut is_low = true;
+    for k in walls {
+        let (front, back) = if is_low { (tree, outer) } else { (outer, tree) };
         tree = pool.node(PlaneId { k: *k }, front, back)?;
+        is_low = !is_low;
     }
     Ok(tree)
 }
 
-/// A piece along two axes: its plane, whether its front is outside, and its least and its greatest corner.
-type Piece = (u32, bool, [i128; 3], [i128; 3]);
+/// The tree of a box and of another one.
+fn union(pool: &mut Pool, first: &[u32], second: &[u32]) -> Result<TreeId, AllocError>
+    ensures live { IfOk result (IsLive pool.new) }
+{
+    let (no, yes) = (pool.leaf(false), pool.leaf(true));
+    let other = within(pool, second, yes, no)?;
+    within(pool, first, yes, other)
+}
 
-/// The least and the greatest numbers of the corners of a piece, which has four, each with whole numbers.
-fn piece(alloc: Global, book: &PlaneBook, face: &OutFace) -> Result<Option<Piece>, AllocError>
+/// The tree of a box less another one.
+fn difference(pool: &mut Pool, first: &[u32], second: &[u32]) -> Result<TreeId, AllocError>
+    ensures live { IfOk result (IsLive pool.new) }
+{
+    let (no, yes) = (pool.leaf(false), pool.leaf(true));
+    let rest = within(pool, second, no, yes)?;
+    within(pool, first, rest, no)
+}
+
+/// A coordinate of a corner with whole coordinates: along x, y or z.
+fn coordinate(corner: &Corner, axis: u8) -> i128 {
+    match axis {
+        0 => corner.x,
+        1 => corner.y,
+        _ => corner.z,
+    }
+}
+
+/// The least and the greatest coordinate of the corners along an axis.
+fn span(around: &[Corner], axis: u8) -> (i128, i128) {
+    let mut low = i128::MAX;
+    let mut high = i128::MIN;
+    for corner in around {
+        low = low.min(coordinate(corner, axis));
+        high = high.max(coordinate(corner, axis));
+    }
+    (low, high)
+}
+
+/// A face in words: its plane, `+` where the front is outside and `-` where the back is, how many corners it has, and
+/// from where to where it goes along x, y and z.
+fn words(alloc: Global, book: &PlaneBook, face: &OutFace) -> Result<String, AllocError>
     requires fragment { IsFragment book.now face.now.frag }
 {
     let around = corners(alloc, book, &face.frag)?;
-    let Some(first) = around.first() else {
-        return Ok(None);
-    };
-    let mut low = [first.x, first.y, first.z];
-    let mut high = low;
-    for corner in &around {
-        if corner.w != 1 {
-            return Ok(None);
-        }
-        low = [
-            low[0].min(corner.x),
-            low[1].min(corner.y),
-            low[2].min(corner.z),
-        ];
-        high = [
-            high[0].max(corner.x),
-            high[1].max(corner.y),
-            high[2].max(corner.z),
-        ];
-    }
-    if around.len() != 4 {
-        return Ok(None);
-    }
-    Ok(Some((face.frag.support.k, face.front_out, low, high)))
+    let plane = face.frag.support.k;
+    let side = if face.front_out { '+' } else { '-' };
+    let (x, y, z) = (span(&around, 0), span(&around, 1), span(&around, 2));
+    format!(in alloc;
+        "{plane}{side} {} {}..{} {}..{} {}..{}",
+        around.len(),
+        x.0,
+        x.1,
+        y.0,
+        y.1,
+        z.0,
+        z.1
+    )
 }
 
-/// Whether these are the pieces, in any order.
-fn are_pieces(
-    alloc: Global,
-    book: &PlaneBook,
-    faces: &[OutFace],
-    pieces: &[Piece],
-) -> Result<bool, AllocError>
+/// The faces in words, a line for each, in the order of the lines.
+fn lines(alloc: Global, book: &PlaneBook, faces: &[OutFace]) -> Result<String, AllocError>
     requires fragments { All (λ o. IsFragment book.now o.frag) faces.now }
 {
-    let mut shown = Vec::new(alloc);
+    let mut lines = Vec::new(alloc);
     for face in faces {
-        match piece(alloc, book, face)? {
-            Some(piece) => shown.push(piece)?,
-            None => return Ok(false),
-        }
+        lines.push(words(alloc, book, face)?)?;
     }
-    Ok(shown.len() == pieces.len() && pieces.iter().all(|piece| shown.contains(piece)))
+    lines.sort()?;
+    let mut text = String::new(alloc);
+    for line in &lines {
+        text.push_str(line)?;
+        text.push('\n')?;
+    }
+    Ok(text)
 }
 
 /// Whether the planes of the faces stand in the order of the book.
@@ -114,55 +144,31 @@ fn are_in_order(faces: &[OutFace]) -> bool {
     true
 }
 
-/// Whether a tree has these pieces, and no others.
-fn shows(
-    alloc: Global,
-    book: &PlaneBook,
-    pool: &Pool,
-    tree: TreeId,
-    pieces: &[Piece],
-) -> Result<bool, AllocError>
+/// The faces of a tree in words; nothing where they are not in the order of the book.
+fn shown(alloc: Global, book: &PlaneBook, pool: &Pool, tree: TreeId) -> Result<String, AllocError>
     requires live { IsLive pool.now tree }
 {
     let faces = all_faces(alloc, book, pool, tree)?;
-    Ok(are_in_order(&faces) && are_pieces(alloc, book, &faces, pieces)?)
+    if !are_in_order(&faces) {
+        return Ok(String::new(alloc));
+    }
+    lines(alloc, book, &faces)
 }
-
-/// The sides of the cube from 0 to 4.
-const CUBE: [(u32, bool); 6] = [
-    (6, true),
-    (8, false),
-    (10, true),
-    (12, false),
-    (14, true),
-    (16, false),
-];
-
-/// The sides of the cube from 0 to 2.
-const LOW_CUBE: [(u32, bool); 6] = [
-    (6, true),
-    (7, false),
-    (10, true),
-    (11, false),
-    (14, true),
-    (15, false),
-];
 
 #[test]
 fn shows_a_cube(rt: HostRuntime) -> Result<(), Fail> {
     let book = planes(rt.alloc())?;
     let mut pool = Pool::new(rt.alloc())?;
-    let (no, yes) = (pool.leaf(false), pool.leaf(true));
-    let tree = within(&mut pool, &CUBE, yes, no)?;
-    let pieces = [
-        (6, false, [0, 0, 0], [0, 4, 4]),
-        (8, true, [4, 0, 0], [4, 4, 4]),
-        (10, false, [0, 0, 0], [4, 0, 4]),
-        (12, true, [0, 4, 0], [4, 4, 4]),
-        (14, false, [0, 0, 0], [4, 4, 0]),
-        (16, true, [0, 0, 4], [4, 4, 4]),
-    ];
-    assert!(rt; shows(rt.alloc(), &book, &pool, tree, &pieces)?);
+    let tree = union(&mut pool, &[6, 8, 9, 11, 12, 14], &[6, 8, 9, 11, 12, 14])?;
+    assert_eq!(rt;
+        shown(rt.alloc(), &book, &pool, tree)?.as_str(),
+        "11+ 4 0..4 4..4 0..4\n\
+         12- 4 0..4 0..4 0..0\n\
+         14+ 4 0..4 0..4 4..4\n\
+         6- 4 0..0 0..4 0..4\n\
+         8+ 4 4..4 0..4 0..4\n\
+         9- 4 0..4 0..0 0..4\n"
+    );
     Ok(())
 }
 
@@ -170,46 +176,44 @@ fn shows_a_cube(rt: HostRuntime) -> Result<(), Fail> {
 fn shows_one_plane_of_a_cube(rt: HostRuntime) -> Result<(), Fail> {
     let book = planes(rt.alloc())?;
     let mut pool = Pool::new(rt.alloc())?;
-    let (no, yes) = (pool.leaf(false), pool.leaf(true));
-    let tree = within(&mut pool, &CUBE, yes, no)?;
-    if book.count() > 17 {
-        let top = faces_on(rt.alloc(), &book, &pool, tree, PlaneId { k: 16 })?;
-        let pieces = [(16, true, [0, 0, 4], [4, 4, 4])];
-        assert!(rt; are_pieces(rt.alloc(), &book, &top, &pieces)?);
-        assert!(rt; faces_on(rt.alloc(), &book, &pool, tree, PlaneId { k: 15 })?.is_empty());
-        assert!(rt; faces_on(rt.alloc(), &book, &pool, tree, PlaneId { k: 0 })?.is_empty());
+    let tree = union(&mut pool, &[6, 8, 9, 11, 12, 14], &[6, 8, 9, 11, 12, 14])?;
+    if book.count() > 14 {
+        let top = faces_on(rt.alloc(), &book, &pool, tree, PlaneId { k: 14 })?;
+        assert_eq!(rt;
+            lines(rt.alloc(), &book, &top)?.as_str(),
+            "14+ 4 0..4 0..4 4..4\n"
+        );
+        let middle = faces_on(rt.alloc(), &book, &pool, tree, PlaneId { k: 13 })?;
+        assert!(rt; middle.is_empty());
     }
-    assert_eq!(rt; book.count(), 18);
+    assert_eq!(rt; book.count(), 15);
     Ok(())
 }
 
-/// The faces of a cube from 0 to 4 out of which the cube from 2 to 4 is taken. The walk looks at z = 2, then y = 2, then
-/// x = 2, and so cuts a face that touches the hole.
+/// The walk looks at z = 2, then y = 2, then x = 2, and so cuts a face that touches the hole.
 #[test]
 fn shows_a_cube_less_a_cube(rt: HostRuntime) -> Result<(), Fail> {
     let book = planes(rt.alloc())?;
     let mut pool = Pool::new(rt.alloc())?;
-    let (no, yes) = (pool.leaf(false), pool.leaf(true));
-    let rest = within(&mut pool, &[(7, true), (11, true), (15, true)], no, yes)?;
-    let tree = within(&mut pool, &CUBE, rest, no)?;
-    let pieces = [
-        (6, false, [0, 0, 0], [0, 4, 2]),
-        (6, false, [0, 0, 2], [0, 2, 4]),
-        (6, false, [0, 2, 2], [0, 4, 4]),
-        (7, true, [2, 2, 2], [2, 4, 4]),
-        (8, true, [4, 0, 0], [4, 4, 2]),
-        (8, true, [4, 0, 2], [4, 2, 4]),
-        (10, false, [0, 0, 0], [4, 0, 2]),
-        (10, false, [0, 0, 2], [4, 0, 4]),
-        (11, true, [2, 2, 2], [4, 2, 4]),
-        (12, true, [0, 4, 0], [4, 4, 2]),
-        (12, true, [0, 4, 2], [2, 4, 4]),
-        (14, false, [0, 0, 0], [4, 4, 0]),
-        (15, true, [2, 2, 2], [4, 4, 2]),
-        (16, true, [0, 0, 4], [4, 2, 4]),
-        (16, true, [0, 2, 4], [2, 4, 4]),
-    ];
-    assert!(rt; shows(rt.alloc(), &book, &pool, tree, &pieces)?);
+    let tree = difference(&mut pool, &[6, 8, 9, 11, 12, 14], &[7, 8, 10, 11, 13, 14])?;
+    assert_eq!(rt;
+        shown(rt.alloc(), &book, &pool, tree)?.as_str(),
+        "10+ 4 2..4 2..2 2..4\n\
+         11+ 4 0..2 4..4 2..4\n\
+         11+ 4 0..4 4..4 0..2\n\
+         12- 4 0..4 0..4 0..0\n\
+         13+ 4 2..4 2..4 2..2\n\
+         14+ 4 0..2 2..4 4..4\n\
+         14+ 4 0..4 0..2 4..4\n\
+         6- 4 0..0 0..2 2..4\n\
+         6- 4 0..0 0..4 0..2\n\
+         6- 4 0..0 2..4 2..4\n\
+         7+ 4 2..2 2..4 2..4\n\
+         8+ 4 4..4 0..2 2..4\n\
+         8+ 4 4..4 0..4 0..2\n\
+         9- 4 0..4 0..0 0..2\n\
+         9- 4 0..4 0..0 2..4\n"
+    );
     Ok(())
 }
 
@@ -218,30 +222,20 @@ fn shows_a_cube_less_a_cube(rt: HostRuntime) -> Result<(), Fail> {
 fn shows_two_cubes_that_touch_in_a_face(rt: HostRuntime) -> Result<(), Fail> {
     let book = planes(rt.alloc())?;
     let mut pool = Pool::new(rt.alloc())?;
-    let (no, yes) = (pool.leaf(false), pool.leaf(true));
-    let right = [
-        (7, true),
-        (8, false),
-        (10, true),
-        (11, false),
-        (14, true),
-        (15, false),
-    ];
-    let other = within(&mut pool, &right, yes, no)?;
-    let tree = within(&mut pool, &LOW_CUBE, yes, other)?;
-    let pieces = [
-        (6, false, [0, 0, 0], [0, 2, 2]),
-        (8, true, [4, 0, 0], [4, 2, 2]),
-        (10, false, [0, 0, 0], [2, 0, 2]),
-        (10, false, [2, 0, 0], [4, 0, 2]),
-        (11, true, [0, 2, 0], [2, 2, 2]),
-        (11, true, [2, 2, 0], [4, 2, 2]),
-        (14, false, [0, 0, 0], [2, 2, 0]),
-        (14, false, [2, 0, 0], [4, 2, 0]),
-        (15, true, [0, 0, 2], [2, 2, 2]),
-        (15, true, [2, 0, 2], [4, 2, 2]),
-    ];
-    assert!(rt; shows(rt.alloc(), &book, &pool, tree, &pieces)?);
+    let tree = union(&mut pool, &[6, 7, 9, 10, 12, 13], &[7, 8, 9, 10, 12, 13])?;
+    assert_eq!(rt;
+        shown(rt.alloc(), &book, &pool, tree)?.as_str(),
+        "10+ 4 0..2 2..2 0..2\n\
+         10+ 4 2..4 2..2 0..2\n\
+         12- 4 0..2 0..2 0..0\n\
+         12- 4 2..4 0..2 0..0\n\
+         13+ 4 0..2 0..2 2..2\n\
+         13+ 4 2..4 0..2 2..2\n\
+         6- 4 0..0 0..2 0..2\n\
+         8+ 4 4..4 0..2 0..2\n\
+         9- 4 0..2 0..0 0..2\n\
+         9- 4 2..4 0..0 0..2\n"
+    );
     Ok(())
 }
 
@@ -249,32 +243,22 @@ fn shows_two_cubes_that_touch_in_a_face(rt: HostRuntime) -> Result<(), Fail> {
 fn shows_two_cubes_that_touch_in_an_edge(rt: HostRuntime) -> Result<(), Fail> {
     let book = planes(rt.alloc())?;
     let mut pool = Pool::new(rt.alloc())?;
-    let (no, yes) = (pool.leaf(false), pool.leaf(true));
-    let beside = [
-        (7, true),
-        (8, false),
-        (11, true),
-        (12, false),
-        (14, true),
-        (15, false),
-    ];
-    let other = within(&mut pool, &beside, yes, no)?;
-    let tree = within(&mut pool, &LOW_CUBE, yes, other)?;
-    let pieces = [
-        (6, false, [0, 0, 0], [0, 2, 2]),
-        (7, true, [2, 0, 0], [2, 2, 2]),
-        (7, false, [2, 2, 0], [2, 4, 2]),
-        (8, true, [4, 2, 0], [4, 4, 2]),
-        (10, false, [0, 0, 0], [2, 0, 2]),
-        (11, true, [0, 2, 0], [2, 2, 2]),
-        (11, false, [2, 2, 0], [4, 2, 2]),
-        (12, true, [2, 4, 0], [4, 4, 2]),
-        (14, false, [0, 0, 0], [2, 2, 0]),
-        (14, false, [2, 2, 0], [4, 4, 0]),
-        (15, true, [0, 0, 2], [2, 2, 2]),
-        (15, true, [2, 2, 2], [4, 4, 2]),
-    ];
-    assert!(rt; shows(rt.alloc(), &book, &pool, tree, &pieces)?);
+    let tree = union(&mut pool, &[6, 7, 9, 10, 12, 13], &[7, 8, 10, 11, 12, 13])?;
+    assert_eq!(rt;
+        shown(rt.alloc(), &book, &pool, tree)?.as_str(),
+        "10+ 4 0..2 2..2 0..2\n\
+         10- 4 2..4 2..2 0..2\n\
+         11+ 4 2..4 4..4 0..2\n\
+         12- 4 0..2 0..2 0..0\n\
+         12- 4 2..4 2..4 0..0\n\
+         13+ 4 0..2 0..2 2..2\n\
+         13+ 4 2..4 2..4 2..2\n\
+         6- 4 0..0 0..2 0..2\n\
+         7+ 4 2..2 0..2 0..2\n\
+         7- 4 2..2 2..4 0..2\n\
+         8+ 4 4..4 2..4 0..2\n\
+         9- 4 0..2 0..0 0..2\n"
+    );
     Ok(())
 }
 
@@ -282,32 +266,22 @@ fn shows_two_cubes_that_touch_in_an_edge(rt: HostRuntime) -> Result<(), Fail> {
 fn shows_two_cubes_that_touch_in_a_corner(rt: HostRuntime) -> Result<(), Fail> {
     let book = planes(rt.alloc())?;
     let mut pool = Pool::new(rt.alloc())?;
-    let (no, yes) = (pool.leaf(false), pool.leaf(true));
-    let above = [
-        (7, true),
-        (8, false),
-        (11, true),
-        (12, false),
-        (15, true),
-        (16, false),
-    ];
-    let other = within(&mut pool, &above, yes, no)?;
-    let tree = within(&mut pool, &LOW_CUBE, yes, other)?;
-    let pieces = [
-        (6, false, [0, 0, 0], [0, 2, 2]),
-        (7, true, [2, 0, 0], [2, 2, 2]),
-        (7, false, [2, 2, 2], [2, 4, 4]),
-        (8, true, [4, 2, 2], [4, 4, 4]),
-        (10, false, [0, 0, 0], [2, 0, 2]),
-        (11, true, [0, 2, 0], [2, 2, 2]),
-        (11, false, [2, 2, 2], [4, 2, 4]),
-        (12, true, [2, 4, 2], [4, 4, 4]),
-        (14, false, [0, 0, 0], [2, 2, 0]),
-        (15, true, [0, 0, 2], [2, 2, 2]),
-        (15, false, [2, 2, 2], [4, 4, 2]),
-        (16, true, [2, 2, 4], [4, 4, 4]),
-    ];
-    assert!(rt; shows(rt.alloc(), &book, &pool, tree, &pieces)?);
+    let tree = union(&mut pool, &[6, 7, 9, 10, 12, 13], &[7, 8, 10, 11, 13, 14])?;
+    assert_eq!(rt;
+        shown(rt.alloc(), &book, &pool, tree)?.as_str(),
+        "10+ 4 0..2 2..2 0..2\n\
+         10- 4 2..4 2..2 2..4\n\
+         11+ 4 2..4 4..4 2..4\n\
+         12- 4 0..2 0..2 0..0\n\
+         13+ 4 0..2 0..2 2..2\n\
+         13- 4 2..4 2..4 2..2\n\
+         14+ 4 2..4 2..4 4..4\n\
+         6- 4 0..0 0..2 0..2\n\
+         7+ 4 2..2 0..2 0..2\n\
+         7- 4 2..2 2..4 2..4\n\
+         8+ 4 4..4 2..4 2..4\n\
+         9- 4 0..2 0..0 0..2\n"
+    );
     Ok(())
 }
 
@@ -316,39 +290,21 @@ fn shows_two_cubes_that_touch_in_a_corner(rt: HostRuntime) -> Result<(), Fail> {
 fn shows_the_step_of_an_l(rt: HostRuntime) -> Result<(), Fail> {
     let book = planes(rt.alloc())?;
     let mut pool = Pool::new(rt.alloc())?;
-    let (no, yes) = (pool.leaf(false), pool.leaf(true));
-    let upper = [
-        (6, true),
-        (7, false),
-        (10, true),
-        (12, false),
-        (15, true),
-        (16, false),
-    ];
-    let lower = [
-        (6, true),
-        (8, false),
-        (10, true),
-        (12, false),
-        (14, true),
-        (15, false),
-    ];
-    let other = within(&mut pool, &upper, yes, no)?;
-    let tree = within(&mut pool, &lower, yes, other)?;
-    let pieces = [
-        (6, false, [0, 0, 0], [0, 4, 2]),
-        (6, false, [0, 0, 2], [0, 4, 4]),
-        (7, true, [2, 0, 2], [2, 4, 4]),
-        (8, true, [4, 0, 0], [4, 4, 2]),
-        (10, false, [0, 0, 0], [4, 0, 2]),
-        (10, false, [0, 0, 2], [2, 0, 4]),
-        (12, true, [0, 4, 0], [4, 4, 2]),
-        (12, true, [0, 4, 2], [2, 4, 4]),
-        (14, false, [0, 0, 0], [4, 4, 0]),
-        (15, true, [2, 0, 2], [4, 4, 2]),
-        (16, true, [0, 0, 4], [2, 4, 4]),
-    ];
-    assert!(rt; shows(rt.alloc(), &book, &pool, tree, &pieces)?);
+    let tree = union(&mut pool, &[6, 8, 9, 11, 12, 13], &[6, 7, 9, 11, 13, 14])?;
+    assert_eq!(rt;
+        shown(rt.alloc(), &book, &pool, tree)?.as_str(),
+        "11+ 4 0..2 4..4 2..4\n\
+         11+ 4 0..4 4..4 0..2\n\
+         12- 4 0..4 0..4 0..0\n\
+         13+ 4 2..4 0..4 2..2\n\
+         14+ 4 0..2 0..4 4..4\n\
+         6- 4 0..0 0..4 0..2\n\
+         6- 4 0..0 0..4 2..4\n\
+         7+ 4 2..2 0..4 2..4\n\
+         8+ 4 4..4 0..4 0..2\n\
+         9- 4 0..2 0..0 2..4\n\
+         9- 4 0..4 0..0 0..2\n"
+    );
     Ok(())
 }
 
@@ -370,23 +326,22 @@ fn chain(book: &mut PlaneBook, pool: &mut Pool, count: u16) -> Result<TreeId, Al
     Ok(tree)
 }
 
+/// The last plane of the chain is x = 1.
 #[test]
 fn walks_a_chain_of_half_spaces(rt: HostRuntime) -> Result<(), Fail> {
     let mut book = planes(rt.alloc())?;
     let mut pool = Pool::new(rt.alloc())?;
     let no = pool.leaf(false);
     let half_spaces = chain(&mut book, &mut pool, 4096)?;
-    let tree = within(&mut pool, &CUBE, half_spaces, no)?;
-    // The last plane of the chain is x = 1.
-    let last = 18 + 4095;
-    let pieces = [
-        (8, true, [4, 0, 0], [4, 4, 4]),
-        (10, false, [1, 0, 0], [4, 0, 4]),
-        (12, true, [1, 4, 0], [4, 4, 4]),
-        (14, false, [1, 0, 0], [4, 4, 0]),
-        (16, true, [1, 0, 4], [4, 4, 4]),
-        (last, false, [1, 0, 0], [1, 4, 4]),
-    ];
-    assert!(rt; shows(rt.alloc(), &book, &pool, tree, &pieces)?);
+    let tree = within(&mut pool, &[6, 8, 9, 11, 12, 14], half_spaces, no)?;
+    assert_eq!(rt;
+        shown(rt.alloc(), &book, &pool, tree)?.as_str(),
+        "11+ 4 1..4 4..4 0..4\n\
+         12- 4 1..4 0..4 0..0\n\
+         14+ 4 1..4 0..4 4..4\n\
+         4110- 4 1..1 0..4 0..4\n\
+         8+ 4 4..4 0..4 0..4\n\
+         9- 4 1..4 0..0 0..4\n"
+    );
     Ok(())
 }

@@ -5,6 +5,6 @@ use Rattle.face_walk.proofs.tests.within.Given as goal
 abbrev pub invariant-loop-k : goal.invariant-loop-k
 invariant-loop-k l = record {
   tree : IsLive l.pool l.tree;
-  other : IsLive l.pool l.other;
+  outer : IsLive l.pool l.outer;
   still_live : (id : TreeId) → IsLive l.fn.pool id → IsLive l.pool id;
 }
