@@ -1,0 +1,11 @@
+mod Neighbours
+mod SideTrees
+mod Held
+mod Placed
+mod Generic
+mod Ranges
+mod Sheets
+mod Nodes
+mod Opened
+mod Lowered
+mod Whole
