@@ -1,0 +1,15 @@
+-- The edges of a piece, in order.
+use Rattle.std.specs.Prelude.{◌≡◌, List, map}
+use Rattle.spec_page.specs.Faces.{rotated}
+use Rattle.plane_core.specs.declared.numbers.Plane.{Plane as BookPlane}
+use Rattle.poly_frag.specs.Cycles.{AreCorners}
+use Rattle.poly_frag.specs.declared.frag.Frag.{Frag}
+use Rattle.edge_cut.specs.declared.sides.Side.{Side}
+
+-- the edges of the piece, each with those before and after it and with the corners where it starts and ends
+pub record AreSides (planes : List BookPlane) (f : Frag) (sides : List Side) : Type 0 where
+  pub edges : map (λ s. s.edge) sides ≡ f.edges.items
+  pub before : rotated (map (λ s. s.before) sides) ≡ f.edges.items
+  pub after : map (λ s. s.after) sides ≡ rotated f.edges.items
+  pub starts : AreCorners planes f (map (λ s. s.start) sides)
+  pub ends : map (λ s. s.end) sides ≡ rotated (map (λ s. s.start) sides)

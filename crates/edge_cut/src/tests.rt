@@ -1,0 +1,136 @@
+ghost use Rattle.std.specs.Prelude.{All, IfOk, IfSome, OnOk};
+ghost use Rattle.poly_frag.specs.Cycles.{IsCycle, IsFragment};
+
+use crate::cut_faces;
+use exact_mesh::{ExactMesh, MeshFace, edge_count};
+use face_walk::OutFace;
+use plane_core::{Plane, PlaneBook, PlaneId};
+use poly_frag::{Frag, Split, on_cube, split};
+use std::alloc::{AllocError, Global};
+use std::test::Fail;
+
+/// The four numbers of a corner.
+type Place = (i128, i128, i128, i128);
+
+/// The size of a coordinate on a wall of the cube.
+const M: i128 = 1_048_577;
+
+/// A book with the walls of the cube and these planes behind them.
+fn book_with(alloc: Global, planes: &[Option<Plane>]) -> Result<PlaneBook, AllocError> {
+    let mut book = PlaneBook::new(alloc)?;
+    for plane in planes {
+        if let Some(plane) = plane
+            && book.count() < 100
+        {
+            book.add(*plane)?;
+        }
+    }
+    Ok(book)
+}
+
+/// What lies in the cube of the plane with the number.
+fn whole(alloc: Global, book: &PlaneBook, support: u32) -> Result<Option<Frag>, AllocError>
+    ensures { IfOk result (λ o. IfSome o (IsFragment book.now)) }
+{
+    if support as usize >= book.count() {
+        return Ok(None);
+    }
+    on_cube(alloc, book, PlaneId { k: support })
+}
+
+/// The part of a fragment in front of a plane or behind it.
+fn part(
+    alloc: Global,
+    book: &PlaneBook,
+    frag: Option<Frag>,
+    by: u32,
+    in_front: bool,
+) -> Result<Option<Frag>, AllocError>
+    requires { IfSome frag (IsFragment book.now) }
+    ensures { IfOk result (λ o. IfSome o (IsFragment book.now)) }
+{
+    let Some(frag) = frag else {
+        return Ok(None);
+    };
+    if by as usize >= book.count() || by == frag.support.k {
+        return Ok(None);
+    }
+    match split(alloc, book, &frag, PlaneId { k: by })? {
+        Split::Both(front, back) => {
+            if in_front {
+                return Ok(Some(front));
+            }
+            Ok(Some(back))
+        }
+        _ => Ok(None),
+    }
+}
+
+/// Adds a piece.
+fn push(faces: &mut Vec<OutFace>, book: &PlaneBook, frag: Option<Frag>, front_out: bool) -> Result<(), AllocError>
+    requires old { All (λ o. IsCycle book.now o.frag) faces.old.items }
+    requires fragment { IfSome frag (IsFragment book.now) }
+    ensures { OnOk result (All (λ o. IsCycle book.now o.frag) faces.new.items) }
+{
+    if let Some(frag) = frag {
+        faces.push(OutFace { frag, front_out })?;
+    }
+    Ok(())
+}
+
+/// The part of plane 6 behind plane 7, and the parts in front of it, which planes 8, 9 and 10 cut from one another; each seen
+/// from one side.
+fn halves(alloc: Global, book: &PlaneBook, front_out: bool) -> Result<Vec<OutFace>, AllocError>
+    ensures { IfOk result (λ faces. All (λ o. IsCycle book.now o.frag) faces.items) }
+{
+    let mut faces = Vec::new(alloc);
+    let left = part(alloc, book, whole(alloc, book, 6)?, 7, false)?;
+    push(&mut faces, book, left, front_out)?;
+    let mut right = part(alloc, book, whole(alloc, book, 6)?, 7, true)?;
+    for by in 8..book.count().min(11) {
+        let Some(rest) = right else {
+            return Ok(faces);
+        };
+        let above = part(alloc, book, Some(rest.copy(alloc)?), by as u32, true)?;
+        push(&mut faces, book, above, front_out)?;
+        right = part(alloc, book, Some(rest), by as u32, false)?;
+    }
+    push(&mut faces, book, right, front_out)?;
+    Ok(faces)
+}
+
+/// Whether the mesh's face at the place has these corners, in order.
+fn has_corners(mesh: &ExactMesh, face: usize, places: &[Place]) -> bool {
+    match mesh.faces.get(face) {
+        Some(face) => {
+            face.corners.len() == places.len()
+                && face.edges.len() == places.len()
+                && face.corners.iter().zip(places).all(|(i, p)| is_at(mesh, *i, *p))
+        }
+        None => false,
+    }
+}
+
+/// Whether the mesh's corner with the number has these numbers.
+fn is_at(mesh: &ExactMesh, number: usize, place: Place) -> bool {
+    match mesh.corners.get(number) {
+        Some(c) => (c.x, c.y, c.z, c.w) == place,
+        None => false,
+    }
+}
+
+#[test]
+fn cuts_an_edge_where_two_faces_meet(rt: HostRuntime) -> Result<(), Fail> {
+    let planes = [
+        Plane::reduced(0, 0, 1, 0),
+        Plane::reduced(1, 0, 0, 0),
+        Plane::reduced(0, 1, 0, 0),
+    ];
+    let book = book_with(rt.alloc(), &planes)?;
+    let mesh = cut_faces(rt.alloc(), &book, &halves(rt.alloc(), &book, true)?)?;
+    assert_eq!(rt; mesh.faces.len(), 3);
+    assert_eq!(rt; mesh.corners.len(), 8);
+    let left = [(-M, -M, 0, 1), (0, -M, 0, 1), (0, 0, 0, 1), (0, M, 0, 1), (-M, M, 0, 1)];
+    assert!(rt; has_corners(&mesh, 0, &left));
+    Ok(())
+}
