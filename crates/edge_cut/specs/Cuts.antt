@@ -1,6 +1,6 @@
 -- Faces whose edges are cut at the corners on them.
-use Rattle.std.specs.Prelude.{◌≡◌, ◌↔◌, pos, ◌<ℤ◌, List, ◌∷◌, map, All, AllZip, AllPairs, Contains}
-use Rattle.std.specs.List.{flat_map}
+use Rattle.std.specs.Prelude.{◌≡◌, ◌↔◌, pos, ◌<ℤ◌, List, ◌∷◌, map, All, AllPairs, Contains}
+use Rattle.std.specs.List.{AllZip, flat_map}
 use Rattle.spec_space.specs.declared.Point.{Point}
 use Rattle.spec_space.specs.Points.{dot, value, way_between}
 use Rattle.spec_page.specs.Element.{Face}

@@ -92,12 +92,15 @@ impl MeshBuilder {
         ensures grown { IsGrown (corners_of self.old) (corners_of self.new) }
         ensures order { OnOk result (AreInFirstUse (corners_of self.old) (faces_of self.old) → AreInFirstUse (corners_of self.new) (faces_of self.new)) }
     {
+        let plane = outward_numbers(book.plane(outline.support), outline.front_out);
         let mut round = cut_round(alloc, book, corners, outline)?;
         turn(&mut round, outline.front_out);
+        let edges = outer_planes(alloc, book, &round.edges)?;
+        let places = self.places(alloc, &round.corners)?;
         let face = MeshFace {
-            plane: outward_numbers(book.plane(outline.support), outline.front_out),
-            edges: outer_planes(alloc, book, &round.edges)?,
-            corners: self.places(alloc, &round.corners)?,
+            plane,
+            edges,
+            corners: places,
         };
         self.faces.push(face)?;
         Ok(())

@@ -1,10 +1,11 @@
-ghost use Rattle.std.specs.Prelude.{◌≡◌, ◌<◌, ◌&&◌, length, filter, IfOk};
+ghost use Rattle.std.specs.Prelude.{◌≡◌, ◌<◌, ◌++◌, ◌∷◌, [], cond, length, filter, IfOk, OnOk};
+ghost use Rattle.std.specs.Ordering.{is_lt};
 ghost use Rattle.plane_core.specs.Views.{point_of};
 ghost use Rattle.convex_cycles.specs.Sides.{is_in_front};
 ghost use Rattle.poly_frag.specs.Frags.{side_of, plane_at};
 ghost use Rattle.corner_book.specs.Corners.{corners_of, IsMadeWith};
 ghost use Rattle.edge_cut.specs.Outlines.{IsSideOfBook};
-ghost use Rattle.edge_cut.specs.Stretches.{comes_before, between_sides, is_inside, IsStretch};
+ghost use Rattle.edge_cut.specs.Stretches.{comes_before, is_between, is_inside, IsStretch};
 
 use crate::sides::Side;
 use corner_book::{CornerBook, before_on_line};
@@ -25,6 +26,28 @@ fn is_kept(book: &PlaneBook, edge: Edge, corner: &Corner) -> bool
     }
 }
 
+/// Whether the corner lies strictly inside the sides that the edges before and after keep.
+fn is_between(book: &PlaneBook, edge: &Side, corner: &Corner) -> bool
+    requires { IsSideOfBook book.now edge.now }
+    ensures { result ≡ is_between book.now edge.now corner.now }
+{
+    if !is_kept(book, edge.before, corner) {
+        return false;
+    }
+    is_kept(book, edge.after, corner)
+}
+
+/// Adds the corner if it is wanted. The error is want of memory.
+fn push_if(corners: &mut Vec<Corner>, corner: &Corner, wanted: bool) -> Result<(), AllocError>
+    ensures { OnOk result (corners.new.items ≡ corners.old.items ++ cond wanted (corner.now ∷ []) []) }
+{
+    if !wanted {
+        return Ok(());
+    }
+    corners.push(*corner)?;
+    Ok(())
+}
+
 /// The corners of the book inside the edge, by their places. The error is want of memory.
 fn corners_inside(
     alloc: Global,
@@ -39,11 +62,11 @@ fn corners_inside(
     ensures { IfOk result (λ inside. inside.items ≡ filter (is_inside book.now support edge.now) (corners_of corners.now)) }
 {
     let mut inside = Vec::new(alloc);
-    for place in &corners.on_line(alloc, book, support, edge.edge.plane)? {
+    let places = corners.on_line(alloc, book, support, edge.edge.plane)?;
+    for place in &places {
         let corner = corners.corner(*place);
-        if is_kept(book, edge.before, corner) && is_kept(book, edge.after, corner) {
-            inside.push(*corner)?;
-        }
+        let wanted = is_between(book, edge, corner);
+        push_if(&mut inside, corner, wanted)?;
     }
     Ok(inside)
 }

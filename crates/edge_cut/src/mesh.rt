@@ -1,5 +1,5 @@
-ghost use Rattle.std.specs.Prelude.{All, AllZip, IfOk, map};
-ghost use Rattle.std.specs.List.{flat_map};
+ghost use Rattle.std.specs.Prelude.{All, IfOk, map};
+ghost use Rattle.std.specs.List.{AllZip};
 ghost use Rattle.corner_book.specs.Corners.{corners_of as book_corners, AreDistinct, IsMadeWith};
 ghost use Rattle.exact_mesh.specs.Meshes.{face_of};
 ghost use Rattle.exact_mesh.specs.Order.{AreInFirstUse};

@@ -1,7 +1,8 @@
-ghost use Rattle.std.specs.Prelude.{◌≡◌, All, AllZip, IfOk};
+ghost use Rattle.std.specs.Prelude.{◌≡◌, ◌<◌, Some, length, slice_get, All, IfOk};
+ghost use Rattle.std.specs.List.{AllZip};
 ghost use Rattle.spec_page.specs.Faces.{rotated};
 ghost use Rattle.poly_frag.specs.Cycles.{IsCycle};
-ghost use Rattle.edge_cut.specs.Sides.{AreSides};
+ghost use Rattle.edge_cut.specs.Sides.{AreSides, AreJoined};
 ghost use Rattle.edge_cut.specs.Outlines.{IsOutlineOf};
 
 use crate::sides::{Outline, Side};
@@ -46,6 +47,57 @@ fn edges_before(alloc: Global, edges: &[Edge]) -> Result<Vec<Edge>, AllocError>
     Ok(before)
 }
 
+/// The edge at a place, by lists of its parts.
+fn side_at(
+    before: &[Edge],
+    edges: &[Edge],
+    after: &[Edge],
+    starts: &[Corner],
+    ends: &[Corner],
+    i: usize,
+) -> Side
+    requires before { i < length before.now }
+    requires edges { i < length edges.now }
+    requires after { i < length after.now }
+    requires starts { i < length starts.now }
+    requires ends { i < length ends.now }
+    ensures before { slice_get before.now i ≡ Some result.before }
+    ensures edge { slice_get edges.now i ≡ Some result.edge }
+    ensures after { slice_get after.now i ≡ Some result.after }
+    ensures start { slice_get starts.now i ≡ Some result.start }
+    ensures end { slice_get ends.now i ≡ Some result.end }
+{
+    Side {
+        before: before[i],
+        edge: edges[i],
+        after: after[i],
+        start: starts[i],
+        end: ends[i],
+    }
+}
+
+/// The edges, by lists of their parts, which are equally long. The error is want of memory.
+fn joined_sides(
+    alloc: Global,
+    before: &[Edge],
+    edges: &[Edge],
+    after: &[Edge],
+    starts: &[Corner],
+    ends: &[Corner],
+) -> Result<Vec<Side>, AllocError>
+    requires before { length before.now ≡ length edges.now }
+    requires after { length after.now ≡ length edges.now }
+    requires starts { length starts.now ≡ length edges.now }
+    requires ends { length ends.now ≡ length edges.now }
+    ensures { IfOk result (λ sides. AreJoined sides.items before.now edges.now after.now starts.now ends.now) }
+{
+    let mut sides = Vec::new(alloc);
+    for i in 0..edges.len() {
+        sides.push(side_at(before, edges, after, starts, ends, i))?;
+    }
+    Ok(sides)
+}
+
 /// The edges of the piece. The error is want of memory.
 fn sides_of(alloc: Global, book: &PlaneBook, frag: &Frag) -> Result<Vec<Side>, AllocError>
     requires cycle { IsCycle book.now frag.now }
@@ -56,17 +108,7 @@ fn sides_of(alloc: Global, book: &PlaneBook, frag: &Frag) -> Result<Vec<Side>, A
     let ends = next_corners(alloc, &starts)?;
     let before = edges_before(alloc, edges)?;
     let after = next_edges(alloc, edges)?;
-    let mut sides = Vec::new(alloc);
-    for i in 0..edges.len() {
-        sides.push(Side {
-            before: before[i],
-            edge: edges[i],
-            after: after[i],
-            start: starts[i],
-            end: ends[i],
-        })?;
-    }
-    Ok(sides)
+    joined_sides(alloc, &before, edges, &after, &starts, &ends)
 }
 
 /// The outlines of the pieces, in order. The error is want of memory.

@@ -1,7 +1,6 @@
-ghost use Rattle.std.specs.Prelude.{◌≡◌, ◌++◌, IfOk, OnOk, All, map};
+ghost use Rattle.std.specs.Prelude.{◌≡◌, ◌<◌, ◌++◌, ◌∷◌, [], length, map, IfOk, OnOk};
 ghost use Rattle.corner_book.specs.Corners.{corners_of, IsMadeWith};
 ghost use Rattle.edge_cut.specs.Outlines.{IsSideOfBook, IsOfBook};
-ghost use Rattle.edge_cut.specs.Cuts.{CutSide, edges_along, corners_along};
 ghost use Rattle.edge_cut.specs.Rounds.{HasCut, IsRoundOf};
 
 use crate::inside::stretch;
@@ -29,6 +28,17 @@ impl Round {
         Ok(())
     }
 
+    /// Adds the parts of an edge that begin at corners inside it.
+    fn push_all(&mut self, edge: Edge, inside: &[Corner]) -> Result<(), AllocError>
+        ensures edges { OnOk result (self.new.edges.items ≡ self.old.edges.items ++ map (λ c. edge) inside.now) }
+        ensures corners { OnOk result (self.new.corners.items ≡ self.old.corners.items ++ inside.now) }
+    {
+        for corner in inside {
+            self.push(edge, *corner)?;
+        }
+        Ok(())
+    }
+
     /// Adds an edge of the piece, cut at the corners inside it. The error is want of memory.
     fn add(
         &mut self,
@@ -45,9 +55,7 @@ impl Round {
     {
         let inside = stretch(alloc, book, corners, support, side)?;
         self.push(side.edge, side.start)?;
-        for corner in &inside {
-            self.push(side.edge, *corner)?;
-        }
+        self.push_all(side.edge, &inside)?;
         Ok(())
     }
 }

@@ -2,7 +2,7 @@ ghost use Rattle.std.specs.Prelude.{All, IfOk, IfSome, OnOk};
 ghost use Rattle.poly_frag.specs.Cycles.{IsCycle, IsFragment};
 
 use crate::cut_faces;
-use exact_mesh::{ExactMesh, MeshFace, edge_count};
+use exact_mesh::{ExactMesh, edge_count};
 use face_walk::OutFace;
 use plane_core::{Plane, PlaneBook, PlaneId};
 use poly_frag::{Frag, Split, on_cube, split};
@@ -111,6 +111,17 @@ fn has_corners(mesh: &ExactMesh, face: usize, places: &[Place]) -> bool {
     }
 }
 
+/// Whether the mesh's face at the place has four corners and these, from one of its places on.
+fn has_between(mesh: &ExactMesh, face: usize, from: usize, places: &[Place]) -> bool {
+    match mesh.faces.get(face) {
+        Some(face) => {
+            face.corners.len() == places.len() + 4
+                && face.corners.iter().skip(from).zip(places).all(|(i, p)| is_at(mesh, *i, *p))
+        }
+        None => false,
+    }
+}
+
 /// Whether the mesh's corner with the number has these numbers.
 fn is_at(mesh: &ExactMesh, number: usize, place: Place) -> bool {
     match mesh.corners.get(number) {
@@ -132,5 +143,71 @@ fn cuts_an_edge_where_two_faces_meet(rt: HostRuntime) -> Result<(), Fail> {
     assert_eq!(rt; mesh.corners.len(), 8);
     let left = [(-M, -M, 0, 1), (0, -M, 0, 1), (0, 0, 0, 1), (0, M, 0, 1), (-M, M, 0, 1)];
     assert!(rt; has_corners(&mesh, 0, &left));
+    Ok(())
+}
+
+#[test]
+fn cuts_a_long_edge_in_order(rt: HostRuntime) -> Result<(), Fail> {
+    let planes = [
+        Plane::reduced(0, 0, 1, 0),
+        Plane::reduced(1, 0, 0, 0),
+        Plane::reduced(0, 1, 0, 5),
+        Plane::reduced(0, 1, 0, 0),
+        Plane::reduced(0, 1, 0, -7),
+    ];
+    let book = book_with(rt.alloc(), &planes)?;
+    let mesh = cut_faces(rt.alloc(), &book, &halves(rt.alloc(), &book, false)?)?;
+    assert_eq!(rt; mesh.faces.len(), 5);
+    // Seen from its back, the left half goes the other way round.
+    let left = [
+        (-M, M, 0, 1),
+        (0, M, 0, 1),
+        (0, 5, 0, 1),
+        (0, 0, 0, 1),
+        (0, -7, 0, 1),
+        (0, -M, 0, 1),
+        (-M, -M, 0, 1),
+    ];
+    assert!(rt; has_corners(&mesh, 0, &left));
+    for (u, v, count) in [(2, 3, 1), (3, 2, 1), (3, 4, 1), (4, 3, 1), (2, 4, 0), (0, 1, 1), (1, 0, 0)] {
+        assert_eq!(rt; edge_count(&mesh, u, v), count);
+    }
+    Ok(())
+}
+
+#[test]
+fn orders_corners_of_great_weight(rt: HostRuntime) -> Result<(), Fail> {
+    let planes = [
+        Plane::reduced(3, 5, 67_108_859, 7),
+        Plane::reduced(67_108_837, 1, 2, 11),
+        Plane::reduced(1, 67_108_819, 3, 10_000_000_000_003),
+        Plane::reduced(2, 67_108_777, 5, -13),
+        Plane::reduced(5, 67_108_763, 1, -14_000_000_000_001),
+    ];
+    let book = book_with(rt.alloc(), &planes)?;
+    let mesh = cut_faces(rt.alloc(), &book, &halves(rt.alloc(), &book, true)?)?;
+    assert_eq!(rt; mesh.faces.len(), 5);
+    // The weights pass 2^64.
+    let inside = [
+        (
+            469_786_712_758_389_865_853,
+            -31_525_182_359_211_090_800_820_317_989,
+            2_348_825_036_567_691_512_830,
+            151_115_427_962_565_867_595_512,
+        ),
+        (
+            49_539_527_919_801_792,
+            -58_546_771_063_734_701,
+            31_525_145_986_221_264,
+            302_230_918_975_495_312_758_521,
+        ),
+        (
+            -335_519_475_221_074_823_713,
+            22_517_987_399_441_640_395_146_089_009,
+            -1_677_705_147_419_826_244_502,
+            151_115_554_063_295_103_104_384,
+        ),
+    ];
+    assert!(rt; has_between(&mesh, 0, 2, &inside));
     Ok(())
 }
