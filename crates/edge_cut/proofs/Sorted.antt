@@ -30,22 +30,22 @@ use Rattle.edge_cut.proofs.Spellings.{one_corner}
 -- ---- members of a filtered list
 member_filter : (p : Corner → Bool) (c : Corner) (cs : List Corner) → Member c (filter p cs) → Member c cs × (p c ≡ true)
 member_filter p c [] m = absurd m
-member_filter p c (d ∷ cs) m = by (p d) refl m
+member_filter p c (d ∷ cs) m = by (p d) refl (member_filter p c cs) m
   where
-    by : (b : Bool) → p d ≡ b → Member c (cond b (d ∷ filter p cs) (filter p cs)) → Member c (d ∷ cs) × (p c ≡ true)
-    by true e (inl same) = (inl same, ap p same ∙ e)
-    by true e (inr m) = let r = member_filter p c cs m in (inr r.0, r.1)
-    by false e m = let r = member_filter p c cs m in (inr r.0, r.1)
+    by : (b : Bool) → p d ≡ b → (Member c (filter p cs) → Member c cs × (p c ≡ true)) → Member c (cond b (d ∷ filter p cs) (filter p cs)) → Member c (d ∷ cs) × (p c ≡ true)
+    by true e rest (inl same) = (inl same, ap p same ∙ e)
+    by true e rest (inr m) = let r = rest m in (inr r.0, r.1)
+    by false e rest m = let r = rest m in (inr r.0, r.1)
 
 filter_member : (p : Corner → Bool) (c : Corner) (cs : List Corner) → Member c cs → p c ≡ true → Member c (filter p cs)
 filter_member p c [] m e = absurd m
-filter_member p c (d ∷ cs) m e = by (p d) refl m
+filter_member p c (d ∷ cs) m e = by (p d) refl (λ later. filter_member p c cs later e) m
   where
-    by : (b : Bool) → p d ≡ b → Member c (d ∷ cs) → Member c (cond b (d ∷ filter p cs) (filter p cs))
-    by true f (inl same) = inl same
-    by true f (inr m) = inr (filter_member p c cs m e)
-    by false f (inl same) = absurd (true≢false (sym e ∙ ap p same ∙ f))
-    by false f (inr m) = filter_member p c cs m e
+    by : (b : Bool) → p d ≡ b → (Member c cs → Member c (filter p cs)) → Member c (d ∷ cs) → Member c (cond b (d ∷ filter p cs) (filter p cs))
+    by true f rest (inl same) = inl same
+    by true f rest (inr m) = inr (rest m)
+    by false f rest (inl same) = absurd (true≢false (sym e ∙ ap p same ∙ f))
+    by false f rest (inr m) = rest m
 
 -- ---- the order of distinct corners
 eq_flips : (c d : Corner) → corner_eq c d ≡ corner_eq d c

@@ -15,6 +15,6 @@ returns c =
     let sorted = c.sort_by.new.self.items in
     let up : IsSortedBy comes_before sorted = sorted_by sorted c.in_ok-sort_by.ensures.sorted (λ a r f' k. search rules) in
     elim c.if-before_on_line.branch [
-      | then-before_on_line w ↦ falling-IsStretch planes cs c.args.support s found sorted c.count-count.ensures.distinct c.in_ok-inside.ensures c.in_ok-sort_by.ensures.permutation up (sym c.before_on_line.ensures ∙ w.if-before_on_line.true) c.if-before_on_line.inside.items (ap (λ v. v.items) w.inside-is ∙ w.reverse.ensures)
+      | then-before_on_line w ↦ falling-IsStretch planes cs c.args.support s found sorted c.count-count.ensures.distinct c.in_ok-inside.ensures c.in_ok-sort_by.ensures.permutation up (sym c.before_on_line.ensures ∙ w.if-before_on_line.true) c.if-before_on_line.inside.items (ap (λ v. v.items) w.inside-is ∙ w.reverse.ensures.items)
       | else-before_on_line w ↦ subst (IsStretch planes cs c.args.support s) (sym (ap (λ v. v.items) w.inside-is)) (rising-IsStretch planes cs c.args.support s found sorted c.count-count.ensures.distinct c.in_ok-inside.ensures c.in_ok-sort_by.ensures.permutation up (sym c.before_on_line.ensures ∙ w.if-before_on_line.false))
     ]

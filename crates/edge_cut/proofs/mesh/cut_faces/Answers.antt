@@ -8,7 +8,7 @@ use Rattle.edge_cut.proofs.Meshed.{outlines_of_book, built-AreCut}
 use Rattle.edge_cut.proofs.mesh.cut_faces.Goals as goal
 
 pub gather-requires : goal.gather-requires
-gather-requires c = subst (All (IsOfBook c.args.book.now)) (sym c.deref.ensures.value) (outlines_of_book c.args.book.now c.args.faces.now c.in_ok-outlines.outlines.items c.requires.cycles c.in_ok-outlines.ensures)
+gather-requires c = record { given = subst (All (IsOfBook c.args.book.now)) (sym c.deref.ensures.value) (outlines_of_book c.args.book.now c.args.faces.now c.in_ok-outlines.outlines.items c.requires.cycles c.in_ok-outlines.ensures) }
 
 pub build-requires-clause-given : goal.build-requires-clause-given
 build-requires-clause-given c = subst (All (IsOfBook c.args.book.now)) (sym c.deref-2.ensures.value) (outlines_of_book c.args.book.now c.args.faces.now c.in_ok-outlines.outlines.items c.requires.cycles c.in_ok-outlines.ensures)

@@ -15,7 +15,7 @@ one_more : (old mid new : List MeshFace) (face : MeshFace) → mid ≡ old → n
 one_more old mid new face same items = ap (map face_of) (items ∙ ap (λ fs. fs ++ face ∷ []) same) ∙ map-append face_of old (face ∷ [])
 
 pub outer_planes-requires : goal.outer_planes-requires
-outer_planes-requires c = round_given c.args.book.now (book_corners c.args.corners.now) c.args.outline.now c.in_ok-round.round c.args.outline.now.front_out c.deref.result.now c.requires.given c.in_ok-round.ensures (c.deref.ensures.value ∙ c.turn.ensures.edges)
+outer_planes-requires c = record { given = round_given c.args.book.now (book_corners c.args.corners.now) c.args.outline.now c.in_ok-round.round c.args.outline.now.front_out c.deref.result.now c.requires.given c.in_ok-round.ensures (c.deref.ensures.value ∙ c.turn.ensures.edges) }
 
 pub returns-clause-face : goal.returns-clause-face
 returns-clause-face c =
