@@ -60,7 +60,7 @@ flipped : (d w x y : ℤ) → x ≡ neg_ℤ d → y ≡ neg_ℤ w → pos 0 <ℤ
 flipped d w x y e f h = subst (λ z. pos 0 <ℤ z) (sym (ap (λ z. z *ℤ y) e ∙ ap (λ z. neg_ℤ d *ℤ z) f ∙ both d w)) h
   where
     both : (d w : ℤ) → neg_ℤ d *ℤ neg_ℤ w ≡ d *ℤ w
-    both d w = omega (arith, ints)
+    both d w = ring (d ∷ (w ∷ [])) (neg (var 0) ⊗ neg (var 1)) (var 0 ⊗ var 1) refl
 
 zero_flipped : (d x : ℤ) → x ≡ neg_ℤ d → d ≡ pos 0 → x ≡ pos 0
 zero_flipped d x e f = omega (arith, ints)

@@ -96,11 +96,11 @@ module _ (planes : List BookPlane) (t : Tree) (pieces : List OutFace) (distinct 
 
   count_filter : {X : Type 0} (f : X → Bool) (xs : List X) → count_by f xs ≡ length (filter f xs)
   count_filter f [] = refl
-  count_filter f (y ∷ ys) = sum_by-cons (λ y. cond (f y) 1 0) y ys ∙ by (f y)
+  count_filter f (y ∷ ys) = sum_by-cons (λ y. cond (f y) 1 0) y ys ∙ by (f y) (count_by f ys) (count_filter f ys)
     where
-      by : (b : Bool) → cond b 1 0 + count_by f ys ≡ length (cond b (y ∷ filter f ys) (filter f ys))
-      by true = let e = count_filter f ys in omega (arith, e)
-      by false = let e = count_filter f ys in omega (arith, e)
+      by : (b : Bool) (n : ℕ) → n ≡ length (filter f ys) → cond b 1 0 + n ≡ length (cond b (y ∷ filter f ys) (filter f ys))
+      by true n e = omega (arith, e)
+      by false n e = omega (arith, e)
 
   how_many : (a b : Bool) → length (outside_by a b) ≡ cond (not (same a b)) 1 0
   how_many true true = refl
@@ -114,13 +114,14 @@ module _ (planes : List BookPlane) (t : Tree) (pieces : List OutFace) (distinct 
 
   kept : (o : OutFace) (os : List OutFace) → Member o os → holds planes o.frag p ≡ true → Member o.front_out (map (λ o. o.front_out) (filter (λ o. holds planes o.frag p) os))
   kept o [] m e = absurd m
-  kept o (q ∷ qs) m e = by (holds planes q.frag p) refl m
+  kept o (q ∷ qs) m e = by (holds planes q.frag p) refl (λ later. kept o qs later e) m
     where
-      by : (b : Bool) → holds planes q.frag p ≡ b → Member o (q ∷ qs) → Member o.front_out (map (λ o. o.front_out) (cond b (q ∷ filter (λ o. holds planes o.frag p) qs) (filter (λ o. holds planes o.frag p) qs)))
-      by true f (inl same) = inl (ap (λ o. o.front_out) same)
-      by true f (inr m) = inr (kept o qs m e)
-      by false f (inl same) = absurd (true≢false (sym e ∙ ap (λ o. holds planes o.frag p) same ∙ f))
-      by false f (inr m) = kept o qs m e
+      by : (b : Bool) → holds planes q.frag p ≡ b → (Member o qs → Member o.front_out (map (λ o. o.front_out) (filter (λ o. holds planes o.frag p) qs))) → Member o (q ∷ qs)
+          → Member o.front_out (map (λ o. o.front_out) (cond b (q ∷ filter (λ o. holds planes o.frag p) qs) (filter (λ o. holds planes o.frag p) qs)))
+      by true f rest (inl same) = inl (ap (λ o. o.front_out) same)
+      by true f rest (inr m) = inr (rest m)
+      by false f rest (inl same) = absurd (true≢false (sym e ∙ ap (λ o. holds planes o.frag p) same ∙ f))
+      by false f rest (inr m) = rest m
 
   outside : (a b c : Bool) → Member c (outside_by a b) → c ≡ not a
   outside true true c m = absurd m

@@ -48,12 +48,12 @@ place_is (d ∷ ds) (suc p) c distinct e =
 
 pub at_place : (cs : List Corner) (c : Corner) → Member c cs → slice_get cs (place_of cs c) ≡ Some c
 at_place [] c m = absurd m
-at_place (d ∷ ds) c m = by (corner_eq c d) refl m
+at_place (d ∷ ds) c m = by (corner_eq c d) refl (at_place ds c) m
   where
-    by : (b : Bool) → corner_eq c d ≡ b → Member c (d ∷ ds) → slice_get (d ∷ ds) (cond b 0 (suc (place_of ds c))) ≡ Some c
-    by true e m = ap Some (sym ((corner_eq-Decides c d).0 e))
-    by false e (inl same) = absurd (true≢false (sym ((corner_eq-Decides c d).1 same) ∙ e))
-    by false e (inr m) = at_place ds c m
+    by : (b : Bool) → corner_eq c d ≡ b → (Member c ds → slice_get ds (place_of ds c) ≡ Some c) → Member c (d ∷ ds) → slice_get (d ∷ ds) (cond b 0 (suc (place_of ds c))) ≡ Some c
+    by true e rest m = ap Some (sym ((corner_eq-Decides c d).0 e))
+    by false e rest (inl same) = absurd (true≢false (sym ((corner_eq-Decides c d).1 same) ∙ e))
+    by false e rest (inr m) = rest m
 
 -- corners at places
 pub places_are : (cs : List Corner) (ps : List ℕ) (seen : List Corner) → EachPair (λ c d. c ≢ d) cs → AreAt cs ps seen → ps ≡ map (place_of cs) seen
