@@ -25,7 +25,7 @@ decide_member (d ∷ cs) c = by (corner_eq c d) refl (decide_member cs c)
     by : (b : Bool) → corner_eq c d ≡ b → Member c cs ⊎ (Member c cs → ⊥) → Member c (d ∷ cs) ⊎ (Member c (d ∷ cs) → ⊥)
     by true e rest = inl (inl ((corner_eq-Decides c d).0 e))
     by false e (inl m) = inl (inr m)
-    by false e (inr none) = inr (λ m. elim m [ | inl same ↦ clash ((corner_eq-Decides c d).1 same) e | inr later ↦ none later ])
+    by false e (inr none) = inr (λ m. elim m [ inl same ↦ clash ((corner_eq-Decides c d).1 same) e | inr later ↦ none later ])
       where
         clash : {b : Bool} → b ≡ true → b ≡ false → ⊥
         clash p q = cc
@@ -35,10 +35,10 @@ no_corner c m = contains_member c [] m
 
 -- ---- one corner more
 pub added_none : (old : List Corner) → HasAdded old [] old
-added_none old c = (λ m. inl m, λ m. elim m [ | inl there ↦ there | inr none ↦ absurd (no_corner c none) ])
+added_none old c = (λ m. inl m, λ m. elim m [ inl there ↦ there | inr none ↦ absurd (no_corner c none) ])
 
 in_one : (c d : Corner) → Contains (d ∷ []) c → c ≡ d
-in_one c d m = elim (contains_member c (d ∷ []) m) [ | inl same ↦ same | inr none ↦ absurd none ]
+in_one c d m = elim (contains_member c (d ∷ []) m) [ inl same ↦ same | inr none ↦ absurd none ]
 
 one_there : (c d : Corner) → c ≡ d → Contains (d ∷ []) c
 one_there c d e = member_contains c (d ∷ []) (inl e)
@@ -66,12 +66,12 @@ one_more mid new c known added d = elim (decide_member mid c) [
   | inl there ↦
       let same = known (member_contains c mid there) in (
         λ m. inl (subst (λ cs. Contains cs d) same m),
-        λ m. subst (λ cs. Contains cs d) (sym same) (elim m [ | inl there ↦ there | inr e ↦ subst (Contains mid) (sym e) (member_contains c mid there) ]),
+        λ m. subst (λ cs. Contains cs d) (sym same) (elim m [ inl there ↦ there | inr e ↦ subst (Contains mid) (sym e) (member_contains c mid there) ]),
       )
   | inr absent ↦
       let grown = added (λ m. absent (contains_member c mid m)) in (
-        λ m. elim (Contains-append_cases mid (c ∷ []) d (subst (λ cs. Contains cs d) grown m)) [ | inl there ↦ inl there | inr last ↦ inr (in_one d c last) ],
-        λ m. subst (λ cs. Contains cs d) (sym grown) (elim m [ | inl there ↦ Contains-append_left mid (c ∷ []) d there | inr e ↦ Contains-append_right mid (c ∷ []) d (one_there d c e) ]),
+        λ m. elim (Contains-append_cases mid (c ∷ []) d (subst (λ cs. Contains cs d) grown m)) [ inl there ↦ inl there | inr last ↦ inr (in_one d c last) ],
+        λ m. subst (λ cs. Contains cs d) (sym grown) (elim m [ inl there ↦ Contains-append_left mid (c ∷ []) d there | inr e ↦ Contains-append_right mid (c ∷ []) d (one_there d c e) ]),
       )
 ]
 

@@ -231,4 +231,4 @@ edges_each planes (k ∷ ks) h = each_append (IsGiven planes) (edges_along k) (f
 pub round_given : (planes : List BookPlane) (cutting : List Corner) (w : Outline) (round : Round) (b : Bool) (edges : List Edge) → IsOfBook planes w → IsRoundOf planes cutting w round → edges ≡ edges_seen b round.edges.items → All (λ e. e.plane.k < length planes) edges
 round_given planes cutting w round b edges of_book is seen =
     all_from_each (IsGiven planes) edges (subst (Each (IsGiven planes)) (sym seen) (each_seen (IsGiven planes) b round.edges.items (subst (Each (IsGiven planes)) (sym is.edges)
-        (edges_each planes is.cuts (subst (Each (λ s. IsGiven planes s.edge)) (sym is.sides) (each_weaker (IsSideOfBook planes) (λ s. IsGiven planes s.edge) (λ s h. h.edge) w.sides.items (each_from_all (IsSideOfBook planes) w.sides.items of_book.sides)))))))
+    (edges_each planes is.cuts (subst (Each (λ s. IsGiven planes s.edge)) (sym is.sides) (each_weaker (IsSideOfBook planes) (λ s. IsGiven planes s.edge) (λ s h. h.edge) w.sides.items (each_from_all (IsSideOfBook planes) w.sides.items of_book.sides)))))))

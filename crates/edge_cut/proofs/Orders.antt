@@ -103,10 +103,10 @@ back x y = omega (arith, ints)
 pub before_cases : (a b : Point) → IsBefore a b ⊎ (IsSamePoint a b ⊎ IsBefore b a)
 before_cases a b = elim (leads_cases (way_between a b).x (way_between a b).y (way_between a b).z (way_between b a).x (way_between b a).y (way_between b a).z
     (back (a.x *ℤ b.w) (b.x *ℤ a.w)) (back (a.y *ℤ b.w) (b.y *ℤ a.w)) (back (a.z *ℤ b.w) (b.z *ℤ a.w))) [
-  | inl up ↦ inl up
-  | inr (inl z) ↦ inr (inl (record { same_x = equal_from (a.x *ℤ b.w) (b.x *ℤ a.w) z.0; same_y = equal_from (a.y *ℤ b.w) (b.y *ℤ a.w) z.1; same_z = equal_from (a.z *ℤ b.w) (b.z *ℤ a.w) z.2 }))
-  | inr (inr low) ↦ inr (inr low)
-]
+      | inl up ↦ inl up
+      | inr (inl z) ↦ inr (inl (record { same_x = equal_from (a.x *ℤ b.w) (b.x *ℤ a.w) z.0; same_y = equal_from (a.y *ℤ b.w) (b.y *ℤ a.w) z.1; same_z = equal_from (a.z *ℤ b.w) (b.z *ℤ a.w) z.2 }))
+      | inr (inr low) ↦ inr (inr low)
+    ]
 
 -- ---- the test
 above : (x y : ℤ) → x <ℤ y → pos 0 <ℤ (y -ℤ x)

@@ -31,7 +31,11 @@ fn outward_numbers(plane: &Plane, front_out: bool) -> [i128; 4]
 }
 
 /// For each edge the plane through it, with its normal out of the piece. The error is want of memory.
-fn outer_planes(alloc: Global, book: &PlaneBook, edges: &[Edge]) -> Result<Vec<[i128; 4]>, AllocError>
+fn outer_planes(
+    alloc: Global,
+    book: &PlaneBook,
+    edges: &[Edge],
+) -> Result<Vec<[i128; 4]>, AllocError>
     requires given { All (λ e. e.plane.k < length book.now) edges.now }
     ensures { IfOk result (λ planes. map numbered_plane planes.items ≡ map (outer_side book.now) edges.now) }
 {

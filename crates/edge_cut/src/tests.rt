@@ -39,23 +39,20 @@ fn whole(alloc: Global, book: &PlaneBook, support: u32) -> Result<Option<Frag>, 
 }
 
 /// The part of a fragment in front of a plane or behind it.
-fn part(
+fn part_of(
     alloc: Global,
     book: &PlaneBook,
-    frag: Option<Frag>,
+    frag: &Frag,
     by: u32,
     in_front: bool,
 ) -> Result<Option<Frag>, AllocError>
-    requires { IfSome frag (IsFragment book.now) }
+    requires { IsFragment book.now frag.now }
     ensures { IfOk result (λ o. IfSome o (IsFragment book.now)) }
 {
-    let Some(frag) = frag else {
-        return Ok(None);
-    };
     if by as usize >= book.count() || by == frag.support.k {
         return Ok(None);
     }
-    match split(alloc, book, &frag, PlaneId { k: by })? {
+    match split(alloc, book, frag, PlaneId { k: by })? {
         Split::Both(front, back) => {
             if in_front {
                 return Ok(Some(front));
@@ -66,8 +63,30 @@ fn part(
     }
 }
 
+/// The part of a fragment, if there is one, in front of a plane or behind it.
+fn part(
+    alloc: Global,
+    book: &PlaneBook,
+    frag: Option<Frag>,
+    by: u32,
+    in_front: bool,
+) -> Result<Option<Frag>, AllocError>
+    requires { IfSome frag (IsFragment book.now) }
+    ensures { IfOk result (λ o. IfSome o (IsFragment book.now)) }
+{
+    match frag {
+        Some(frag) => part_of(alloc, book, &frag, by, in_front),
+        None => Ok(None),
+    }
+}
+
 /// Adds a piece.
-fn push(faces: &mut Vec<OutFace>, book: &PlaneBook, frag: Option<Frag>, front_out: bool) -> Result<(), AllocError>
+fn push(
+    faces: &mut Vec<OutFace>,
+    book: &PlaneBook,
+    frag: Option<Frag>,
+    front_out: bool,
+) -> Result<(), AllocError>
     requires old { All (λ o. IsCycle book.now o.frag) faces.old.items }
     requires fragment { IfSome frag (IsFragment book.now) }
     ensures { OnOk result (All (λ o. IsCycle book.now o.frag) faces.new.items) }
@@ -78,6 +97,32 @@ fn push(faces: &mut Vec<OutFace>, book: &PlaneBook, frag: Option<Frag>, front_ou
     Ok(())
 }
 
+/// Adds what lies of a piece in front of a plane as a piece of its own, and answers the rest; the piece whole where the book
+/// has no such plane.
+fn peel(
+    alloc: Global,
+    book: &PlaneBook,
+    rest: Option<Frag>,
+    by: u32,
+    front_out: bool,
+    faces: &mut Vec<OutFace>,
+) -> Result<Option<Frag>, AllocError>
+    requires old { All (λ o. IsCycle book.now o.frag) faces.old.items }
+    requires fragment { IfSome rest (IsFragment book.now) }
+    ensures faces { OnOk result (All (λ o. IsCycle book.now o.frag) faces.new.items) }
+    ensures fragment { IfOk result (λ o. IfSome o (IsFragment book.now)) }
+{
+    let Some(rest) = rest else {
+        return Ok(None);
+    };
+    if by as usize >= book.count() {
+        return Ok(Some(rest));
+    }
+    let above = part_of(alloc, book, &rest, by, true)?;
+    push(faces, book, above, front_out)?;
+    part_of(alloc, book, &rest, by, false)
+}
+
 /// The part of plane 6 behind plane 7, and the parts in front of it, which planes 8, 9 and 10 cut from one another; each seen
 /// from one side.
 fn halves(alloc: Global, book: &PlaneBook, front_out: bool) -> Result<Vec<OutFace>, AllocError>
@@ -86,15 +131,10 @@ fn halves(alloc: Global, book: &PlaneBook, front_out: bool) -> Result<Vec<OutFac
     let mut faces = Vec::new(alloc);
     let left = part(alloc, book, whole(alloc, book, 6)?, 7, false)?;
     push(&mut faces, book, left, front_out)?;
-    let mut right = part(alloc, book, whole(alloc, book, 6)?, 7, true)?;
-    for by in 8..book.count().min(11) {
-        let Some(rest) = right else {
-            return Ok(faces);
-        };
-        let above = part(alloc, book, Some(rest.copy(alloc)?), by as u32, true)?;
-        push(&mut faces, book, above, front_out)?;
-        right = part(alloc, book, Some(rest), by as u32, false)?;
-    }
+    let right = part(alloc, book, whole(alloc, book, 6)?, 7, true)?;
+    let right = peel(alloc, book, right, 8, front_out, &mut faces)?;
+    let right = peel(alloc, book, right, 9, front_out, &mut faces)?;
+    let right = peel(alloc, book, right, 10, front_out, &mut faces)?;
     push(&mut faces, book, right, front_out)?;
     Ok(faces)
 }
@@ -105,7 +145,11 @@ fn has_corners(mesh: &ExactMesh, face: usize, places: &[Place]) -> bool {
         Some(face) => {
             face.corners.len() == places.len()
                 && face.edges.len() == places.len()
-                && face.corners.iter().zip(places).all(|(i, p)| is_at(mesh, *i, *p))
+                && face
+                    .corners
+                    .iter()
+                    .zip(places)
+                    .all(|(i, p)| is_at(mesh, *i, *p))
         }
         None => false,
     }
@@ -116,7 +160,12 @@ fn has_between(mesh: &ExactMesh, face: usize, from: usize, places: &[Place]) -> 
     match mesh.faces.get(face) {
         Some(face) => {
             face.corners.len() == places.len() + 4
-                && face.corners.iter().skip(from).zip(places).all(|(i, p)| is_at(mesh, *i, *p))
+                && face
+                    .corners
+                    .iter()
+                    .skip(from)
+                    .zip(places)
+                    .all(|(i, p)| is_at(mesh, *i, *p))
         }
         None => false,
     }
@@ -141,7 +190,13 @@ fn cuts_an_edge_where_two_faces_meet(rt: HostRuntime) -> Result<(), Fail> {
     let mesh = cut_faces(rt.alloc(), &book, &halves(rt.alloc(), &book, true)?)?;
     assert_eq!(rt; mesh.faces.len(), 3);
     assert_eq!(rt; mesh.corners.len(), 8);
-    let left = [(-M, -M, 0, 1), (0, -M, 0, 1), (0, 0, 0, 1), (0, M, 0, 1), (-M, M, 0, 1)];
+    let left = [
+        (-M, -M, 0, 1),
+        (0, -M, 0, 1),
+        (0, 0, 0, 1),
+        (0, M, 0, 1),
+        (-M, M, 0, 1),
+    ];
     assert!(rt; has_corners(&mesh, 0, &left));
     Ok(())
 }
@@ -169,7 +224,15 @@ fn cuts_a_long_edge_in_order(rt: HostRuntime) -> Result<(), Fail> {
         (-M, -M, 0, 1),
     ];
     assert!(rt; has_corners(&mesh, 0, &left));
-    for (u, v, count) in [(2, 3, 1), (3, 2, 1), (3, 4, 1), (4, 3, 1), (2, 4, 0), (0, 1, 1), (1, 0, 0)] {
+    for (u, v, count) in [
+        (2, 3, 1),
+        (3, 2, 1),
+        (3, 4, 1),
+        (4, 3, 1),
+        (2, 4, 0),
+        (0, 1, 1),
+        (1, 0, 0),
+    ] {
         assert_eq!(rt; edge_count(&mesh, u, v), count);
     }
     Ok(())

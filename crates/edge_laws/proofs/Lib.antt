@@ -9,3 +9,4 @@ pub mod Balance
 pub mod Along
 pub mod Rings
 pub mod Full
+pub mod Points

@@ -8,4 +8,3 @@ returns-clause-at c = let s = c.in_ok-place.ensures.stored in s.1 ∙ ap Some (s
 
 pub returns-clause-next : goal.returns-clause-next
 returns-clause-next c = next_place (corner_eq c.args.corner) c.args.self.now.corners.keys c.insert_full.new.self.keys c.args.corner c.in_ok-place.place c.in_ok-place.ensures.keys c.in_ok-place.ensures.index
-
