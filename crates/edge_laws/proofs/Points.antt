@@ -1,5 +1,5 @@
 -- The points of a face with cut edges are those of its piece.
-use Rattle.std.proofs.Common.{◌≡◌, Bool, true, false, true≢false, ◌&&◌, ◌==◌, List, [], ◌∷◌, ◌++◌, map, ℤ, pos, neg_ℤ, ◌<ℤ◌, int_lt, unsigned_abs, refl, sym, ap, ap₂, ◌∙◌, subst, arith}
+use Rattle.std.proofs.Common.{◌≡◌, Bool, true, false, true≢false, ◌&&◌, ◌==◌, List, [], ◌∷◌, map, reverse, ℤ, pos, neg_ℤ, ◌<ℤ◌, int_lt, unsigned_abs, refl, sym, ap, ap₂, ◌∙◌, subst, arith}
 use Rattle.std.specs.Prelude.{◌↔◌}
 use Rattle.std.specs.List.{list_all, flat_map}
 use Rattle.std.proofs.lemmas.Int.{ints}
@@ -19,7 +19,8 @@ use Rattle.poly_frag.specs.declared.frag.Edge.{Edge}
 use Rattle.poly_frag.proofs.Starts.{on_plane}
 use Rattle.face_walk.specs.declared.faces.OutFace.{OutFace}
 use Rattle.piece_mesh.specs.Pieces.{outer_side, edges_seen}
-use Rattle.piece_mesh.proofs.Faces.{each_seen, each_from_seen}
+use Rattle.piece_mesh.proofs.Faces.{each_seen}
+use Rattle.piece_mesh.proofs.Rows.{each_from_reverse, each_from_rotated}
 use Rattle.edge_cut.specs.Cuts.{CutSide, edges_along, corners_along, IsCutFaceOf}
 use Rattle.edge_cut.proofs.Cutting.{on_kept_side}
 
@@ -34,6 +35,11 @@ all_true test (x ∷ xs) e = let parts = both (test x) (list_all test xs) e in (
 true_all : {X : Type 0} (test : X → Bool) (xs : List X) → Each (λ x. test x ≡ true) xs → list_all test xs ≡ true
 true_all test [] e = refl
 true_all test (x ∷ xs) e = ap₂ (λ a b. a && b) e.0 (true_all test xs e.1)
+
+-- what holds of all edges as they are seen holds of all edges
+each_from_seen : (P : Edge → Type 0) (front_out : Bool) (edges : List Edge) → Each P (edges_seen front_out edges) → Each P edges
+each_from_seen P true edges e = e
+each_from_seen P false edges e = each_from_reverse P edges (each_from_rotated P (reverse edges) e)
 
 -- ---- behind the outer side of an edge is inside the side that it keeps
 test_outer : (x y : ℤ) → y ≡ neg_ℤ x → pos 0 <ℤ x → int_lt y (pos 0) ≡ true
