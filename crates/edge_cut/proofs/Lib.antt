@@ -1,0 +1,11 @@
+pub mod Orders
+pub mod Spellings
+pub mod Made
+pub mod Outlined
+pub mod Gathered
+pub mod Found
+pub mod Rounded
+pub mod Sorted
+pub mod Steps
+pub mod Cutting
+pub mod Meshed

@@ -1,0 +1,100 @@
+-- A stretch of corners, sorted.
+use Rattle.std.proofs.Common.{◌≡◌, ◌≢◌, ℕ, ◌<◌, ◌≤◌, Bool, true, false, true≢false, List, [], ◌∷◌, length, reverse, filter, get_or, cond, Contains, AllPairs, inl, inr, refl, sym, ap, ◌∙◌, subst, arith}
+use Rattle.std.specs.Prelude.{◌↔◌}
+use denote.Param.Members.{Mut}
+use denote.Ref.{Bor}
+use Rattle.std.specs.Cmp.{IsStrictWeakOrder}
+use Rattle.std.specs.Fn.{Called, ComparesAs}
+use Rattle.std.specs.Ordering.{is_lt}
+use Rattle.std.specs.declared.cmp.Ordering.{Ordering}
+use Rattle.std.specs.List.Sorted.{IsPermutation, IsSortedBy}
+use Rattle.std.proofs.lemmas.Fn.{always_returns_same}
+use Rattle.std.proofs.lemmas.List.Kept.{AllPairs-filter}
+use Rattle.std.proofs.lemmas.List.Sorted.{sorted_far, Contains-permutation, IsPermutation-sym, IsPermutation-trans, IsPermutation-reverse}
+use Rattle.std.proofs.lemmas.Map.Keys.{IsDistinct-IsPermutation}
+use Rattle.std.proofs.lemmas.Map.Made.{AllPairs-from_IsDistinct, IsDistinct-from_AllPairs}
+use Rattle.spec_space.specs.Sums.{IsSamePoint}
+use Rattle.plane_core.specs.declared.numbers.Plane.{Plane as BookPlane}
+use Rattle.plane_core.specs.declared.numbers.Corner.{Corner}
+use Rattle.plane_core.specs.declared.book.PlaneId.{PlaneId}
+use Rattle.convex_cycles.proofs.Lists.{Member, pair_from_all, all_from_pair}
+use Rattle.corner_book.specs.Corners.{AreDistinct}
+use Rattle.corner_book.proofs.Same.{corner_eq, corner_eq-Decides}
+use Rattle.line_turns.proofs.CutLists.{pair_reverse}
+use Rattle.poly_frag.proofs.CornerSigns.{contains_member, member_contains}
+use Rattle.edge_cut.specs.declared.sides.Side.{Side}
+use Rattle.edge_cut.specs.Stretches.{comes_before, is_inside, IsStretch}
+use Rattle.edge_cut.proofs.Orders.{order-IsStrictWeakOrder, comes_first}
+use Rattle.edge_cut.proofs.Spellings.{one_corner}
+
+-- ---- members of a filtered list
+member_filter : (p : Corner → Bool) (c : Corner) (cs : List Corner) → Member c (filter p cs) → Member c cs × (p c ≡ true)
+member_filter p c [] m = absurd m
+member_filter p c (d ∷ cs) m = by (p d) refl (member_filter p c cs) m
+  where
+    by : (b : Bool) → p d ≡ b → (Member c (filter p cs) → Member c cs × (p c ≡ true)) → Member c (cond b (d ∷ filter p cs) (filter p cs)) → Member c (d ∷ cs) × (p c ≡ true)
+    by true e rest (inl same) = (inl same, ap p same ∙ e)
+    by true e rest (inr m) = let r = rest m in (inr r.0, r.1)
+    by false e rest m = let r = rest m in (inr r.0, r.1)
+
+filter_member : (p : Corner → Bool) (c : Corner) (cs : List Corner) → Member c cs → p c ≡ true → Member c (filter p cs)
+filter_member p c [] m e = absurd m
+filter_member p c (d ∷ cs) m e = by (p d) refl (λ later. filter_member p c cs later e) m
+  where
+    by : (b : Bool) → p d ≡ b → (Member c cs → Member c (filter p cs)) → Member c (d ∷ cs) → Member c (cond b (d ∷ filter p cs) (filter p cs))
+    by true f rest (inl same) = inl same
+    by true f rest (inr m) = inr (rest m)
+    by false f rest (inl same) = absurd (true≢false (sym e ∙ ap p same ∙ f))
+    by false f rest (inr m) = rest m
+
+-- ---- the order of distinct corners
+eq_flips : (c d : Corner) → corner_eq c d ≡ corner_eq d c
+eq_flips c d = by (corner_eq c d) (corner_eq d c) refl refl
+  where
+    by : (a b : Bool) → corner_eq c d ≡ a → corner_eq d c ≡ b → a ≡ b
+    by true true e f = refl
+    by false false e f = refl
+    by true false e f = absurd (true≢false (sym ((corner_eq-Decides d c).1 (sym ((corner_eq-Decides c d).0 e))) ∙ f))
+    by false true e f = absurd (true≢false (sym ((corner_eq-Decides c d).1 (sym ((corner_eq-Decides d c).0 f))) ∙ e))
+
+distinct_kept : (found sorted : List Corner) → IsPermutation found sorted → AreDistinct found → AreDistinct sorted
+distinct_kept found sorted perm distinct =
+    AllPairs-from_IsDistinct corner_eq-Decides sorted (IsDistinct-IsPermutation corner_eq eq_flips found sorted perm (IsDistinct-from_AllPairs corner_eq-Decides found distinct))
+
+rises : (sorted : List Corner) → AreDistinct sorted → IsSortedBy comes_before sorted → AllPairs (λ c d. comes_before c d ≡ true) sorted
+rises sorted distinct up i j d below within =
+    comes_first (get_or sorted i d) (get_or sorted j d) (λ same. distinct i j d below within (one_corner (get_or sorted i d) (get_or sorted j d) same))
+    (sorted_far comes_before order-IsStrictWeakOrder sorted up i j d (weaker i j below) within)
+  where
+    weaker : (i j : ℕ) → i < j → i ≤ j
+    weaker i j h = omega (arith, h)
+
+-- a sort by a closure that answers by the order of corners
+pub sorted_by : {F : Type 0} {g : Mut F (Bor Corner × (Bor Corner × Unit {0})) Ordering} {f : F} (cs : List Corner) → ((lt : Corner → Corner → Bool) → IsStrictWeakOrder lt → ComparesAs g lt f → IsSortedBy lt cs)
+    → ((a : Bor Corner × (Bor Corner × Unit {0})) (r : Ordering) (f' : F) → Called g f a r f' → (is_lt r ≡ comes_before a.0.now a.1.0.now) × (f' ≡ f)) → IsSortedBy comes_before cs
+sorted_by {g = g} {f = f} cs sorted h = sorted comes_before order-IsStrictWeakOrder (always_returns_same g (λ a r. is_lt r ≡ comes_before a.0.now a.1.0.now) f h)
+
+-- ---- the stretch
+
+module _ (planes : List BookPlane) (cs : List Corner) (support : PlaneId) (s : Side) (found sorted : List Corner) (distinct : AreDistinct cs) (are : found ≡ filter (is_inside planes support s) cs)
+    (perm : IsPermutation found sorted) (up : IsSortedBy comes_before sorted) where
+  risen : AllPairs (λ c d. comes_before c d ≡ true) sorted
+  risen = rises sorted (distinct_kept found sorted perm (subst AreDistinct (sym are) (AllPairs-filter (λ c d. c ≢ d) (is_inside planes support s) cs distinct))) up
+
+  all_there : (inside : List Corner) → IsPermutation found inside → (c : Corner) → Contains inside c ↔ (Contains cs c × (is_inside planes support s c ≡ true))
+  all_there inside moved c = (
+    λ m.
+        let r = member_filter (is_inside planes support s) c cs (subst (Member c) are (contains_member c found (Contains-permutation inside found c (IsPermutation-sym found inside moved) m))) in
+        (member_contains c cs r.0, r.1),
+    λ h. Contains-permutation found inside c moved (member_contains c found (subst (Member c) (sym are) (filter_member (is_inside planes support s) c cs (contains_member c cs h.0) h.1))),
+  )
+
+  pub rising-IsStretch : comes_before s.end s.start ≡ false → IsStretch planes cs support s sorted
+  rising-IsStretch flag = record { all = all_there sorted perm; rising = λ e. risen; falling = λ e. absurd (true≢false (sym e ∙ flag)) }
+
+  pub falling-IsStretch : comes_before s.end s.start ≡ true → (inside : List Corner) → inside ≡ reverse sorted → IsStretch planes cs support s inside
+  falling-IsStretch flag inside turned = subst (IsStretch planes cs support s) (sym turned) (record {
+    all = all_there (reverse sorted) (IsPermutation-trans found sorted (reverse sorted) perm (IsPermutation-reverse sorted));
+    rising = λ e. absurd (true≢false (sym flag ∙ e));
+    falling = λ e. all_from_pair (λ c d. comes_before d c ≡ true) (reverse sorted) (pair_reverse (λ c d. comes_before c d ≡ true) sorted (pair_from_all (λ c d. comes_before c d ≡ true) sorted risen));
+  })

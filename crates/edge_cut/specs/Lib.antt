@@ -1,0 +1,5 @@
+pub mod Sides
+pub mod Cuts
+pub mod Outlines
+pub mod Stretches
+pub mod Rounds

@@ -1,0 +1,12 @@
+pub mod Told
+pub mod Named
+pub mod Room
+pub mod Boundary
+pub mod Edges
+pub mod Rounds
+pub mod Shown
+pub mod Balance
+pub mod Along
+pub mod Rings
+pub mod Full
+pub mod Points
