@@ -1,0 +1,4 @@
+mod Trees
+mod Lists
+mod Unions
+mod Elements

@@ -1,0 +1,4 @@
+pub mod Grown
+pub mod Covers
+mod Regions
+pub mod Wholes
