@@ -1,5 +1,5 @@
 -- What a cell leaves of the sides of a region, side by side.
-use Rattle.std.proofs.Common.{◌≡◌, ℕ, suc, ◌+◌, ◌≤◌, Bool, true, false, ◌&&◌, List, [], ◌∷◌, ◌++◌, length, slice_get, pos, refl, sym, ap, subst, ◌∙◌, arith}
+use Rattle.std.proofs.Common.{◌≡◌, ℕ, suc, ◌+◌, ◌≤◌, Bool, true, false, ◌&&◌, List, [], ◌∷◌, ◌++◌, length, slice_get, pos, refl, sym, ap, subst, ◌∙◌, arith, eqb→eq, T}
 use Rattle.std.specs.Prelude.{◌≢◌, ◌==◌}
 use Rattle.std.specs.List.{Contains}
 use Rattle.std.proofs.lemmas.List.{length-append}
@@ -70,4 +70,4 @@ module _ (planes : List Plane) (steps : List Step) (taken : Step) (sides : List 
   none_crosses (x ∷ xs) is e q i off = absurd (some (length xs) e)
     where
       some : (n : ℕ) → (suc n == 0) ≡ true → ⊥
-      some n e = cc
+      some n e = let z : suc n ≡ 0 = eqb→eq (suc n) 0 (subst T (sym e) tt) in omega arith

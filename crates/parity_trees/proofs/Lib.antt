@@ -1,5 +1,5 @@
 mod Lists
-mod Cells
+pub mod Cells
 mod Crossings
 mod Sums
 mod Weights

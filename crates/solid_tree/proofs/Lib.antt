@@ -2,3 +2,6 @@ mod Trees
 mod Lists
 mod Unions
 mod Elements
+mod Far
+mod Nudges
+mod Tight

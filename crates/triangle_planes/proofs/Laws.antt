@@ -1,6 +1,6 @@
 -- Laws of the planes of triangles for the crates above.
 use Rattle.std.proofs.Common.{◌≡◌, ◌≢◌, ℕ, zero, suc, ◌<◌, pos, Bool, true, false, List, [], ◌∷◌, unsigned_abs, refl, sym, ap, subst, ◌∙◌, arith, eqb→eq, T, true≢false}
-use Rattle.std.specs.Prelude.{◌==◌, if◌then◌else◌}
+use Rattle.std.specs.Prelude.{◌==◌, if◌then◌else◌, Option, Some, None, IfNone}
 use Rattle.std.specs.List.{All, Contains}
 use Rattle.std.proofs.lemmas.List.Elements.{All-nil, All-cons, All-contains}
 use Rattle.std.proofs.lemmas.Grind.{merely}
@@ -37,4 +37,9 @@ reduced_has_forms t forms is =
     (All-cons HasForm (upright_plane t.c t.a) [] (merely (forms.ca, is.ca)) (All-nil HasForm)))))
 
 pub lacks_from : (t : Triangle) → (turn t).z ≢ pos 0 → (k : Plane) → Contains (plane_through t ∷ upright_plane t.a t.b ∷ upright_plane t.b t.c ∷ upright_plane t.c t.a ∷ []) k → (HasForm k → ⊥) → HasForms t → ⊥
-lacks_from t steep k there none all = none (All-contains HasForm (plane_through t ∷ upright_plane t.a t.b ∷ upright_plane t.b t.c ∷ upright_plane t.c t.a ∷ []) (subst (All HasForm) (planes_steep t steep) all) k there)
+lacks_from t steep k there none all = none (All-contains HasForm (plane_through t ∷ upright_plane t.a t.b ∷ upright_plane t.b t.c ∷ upright_plane t.c t.a ∷ []) k (subst (All HasForm) (planes_steep t steep) all) there)
+
+-- a fact holds where there is no value
+pub none_fact : {X : Type 0} (o : Option X) (P : Type 0) → P → IfNone o P
+none_fact None P p = p
+none_fact (Some x) P p = tt

@@ -1,5 +1,5 @@
 ghost use Rattle.std.specs.Prelude.{◌≡◌, ◌*◌, ◌+◌, ◌≤◌, ◌^◌, ◌-ℤ◌, ◌*ℤ◌, unsigned_abs};
-ghost use Rattle.spec_space.specs.Points.{minus, dot};
+ghost use Rattle.spec_space.specs.Points.{minus, cross, dot};
 ghost use Rattle.spec_solid.specs.Triangles.{turn};
 ghost use Rattle.spec_solid.specs.Planes.{plane_through, upright_plane};
 ghost use Rattle.grid_boxes.specs.Ranges.{AreSteps};

@@ -16,7 +16,10 @@ fn form(plane: Plane) -> Option<plane_core::Plane>
     ensures taken { IfSome result (λ p. IsReductionOf p plane.a plane.b plane.c plane.d) }
     ensures too_large { IfNone result (HasForm plane → ⊥) }
 {
-    plane_core::Plane::reduced(plane.a, plane.b, plane.c, plane.d)
+    match plane_core::Plane::reduced(plane.a, plane.b, plane.c, plane.d) {
+        Some(form) => Some(form),
+        None => None,
+    }
 }
 
 /// The reduced planes of a triangle that is not upright; `None` where some reduced form passes the sizes of planes.

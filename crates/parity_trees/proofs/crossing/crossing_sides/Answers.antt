@@ -27,7 +27,7 @@ loop-side-preserved c =
     let here = has_item sides i none c.loop-side-test.true in
     let so_far = subst (AreCrossingSoFar book steps c.args.taken sides c.loop-side.crossing.items) (left_at sides i none c.loop-side-test.true) c.loop-side.invariant in
     elim c.match-decided.branch [
-      | in-None+in_ok-push-in-None w ↦ subst (λ xs. AreCrossingSoFar book steps c.args.taken sides xs more) (sym (ap (λ v. v.items) w.crossing-is ∙ w.in_ok-push-in-None.ensures.items)) (crossing_kept book steps c.args.taken sides c.loop-side.crossing.items s more here w.in-None.ensures.crossing so_far)
+      | in-None+in_ok-push-in-None w ↦ subst (λ xs. AreCrossingSoFar book steps c.args.taken sides xs more) (sym (ap (λ v. v.items) w.crossing-is ∙ w.in_ok-push-in-None.ensures.ok)) (crossing_kept book steps c.args.taken sides c.loop-side.crossing.items s more here w.in-None.ensures.crossing so_far)
       | in-Some-true w ↦ subst (λ xs. AreCrossingSoFar book steps c.args.taken sides xs more) (sym (ap (λ v. v.items) w.crossing-is)) (crossing_passed book steps c.args.taken sides c.loop-side.crossing.items s more here (subst (IsDecided book steps s) w.in-Some-true.field-0-test w.in-Some-true.ensures.decided) so_far)
     ]
 
