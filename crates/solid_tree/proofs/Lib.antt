@@ -1,7 +1,8 @@
 mod Trees
 mod Lists
-mod Unions
-mod Elements
+mod UnionLaws
+mod Rounds
+mod ElementLaws
 mod Far
 mod Nudges
 mod Tight

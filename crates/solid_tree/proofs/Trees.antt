@@ -1,7 +1,8 @@
 -- Trees that tell meanings: in a pool and a book that have grown, and merged.
 use Rattle.std.proofs.Common.{◌≡◌, ◌⊎◌, ℕ, Bool, List, Some, slice_get, refl, sym, ap, subst, ◌∙◌, inl, inr}
-use Rattle.std.specs.Prelude.{◌||◌}
+use Rattle.std.specs.Prelude.{◌||◌, Result, Ok, Err, IfOk}
 use Rattle.std.specs.List.{Contains}
+use Rattle.std.specs.declared.alloc.AllocError.{AllocError}
 use Rattle.spec_space.specs.declared.Point.{Point}
 use Rattle.spec_space.specs.declared.Plane.{Plane}
 use Rattle.spec_solid.specs.declared.BoolOp.{BoolOp}
@@ -56,3 +57,12 @@ has_kept n old new before after grown kept ks told id h = (h.0, kept id h.0 h.1,
 -- the number of the tree that a call made
 pub has_made : (pool : Slots) (planes : List BookPlane) (ks : List Plane) (told : Point → Bool) (id : TreeId) → AreTrees pool → IsLive pool id → ((t : Tree) → StandsFor pool id t → IsTreeOf planes ks told t) → HasTree pool planes ks told id
 has_made pool planes ks told id ok live is = let t = ok.tree id live in (t.0, t.1, is t.0 t.1)
+
+-- the number of a merge tells what the operator makes
+pub merged_has : (planes : List BookPlane) (old new : Slots) (a b : TreeId) (operator : BoolOp) (table : Table4) (r : Result TreeId AllocError) → ((x y : Bool) → entry table x y ≡ truth operator x y) → AreTrees new
+    → IfOk r (IsLive new) → IfOk r (λ id. (f g t : Tree) → StandsFor old a f → StandsFor old b g → StandsFor new id t → IsMergeOf planes table f g t)
+    → IfOk r (λ id. (ks : List Plane) (p q : Point → Bool) → HasTree old planes ks p a → HasTree old planes ks q b → HasTree new planes ks (λ x. truth operator (p x) (q x)) id)
+merged_has planes old new a b operator table (Ok id) is_table ok live merged = λ ks p q first second.
+    let t = ok.tree id live in
+    (t.0, t.1, merge_tells planes ks p q operator table is_table first.0 second.0 t.0 first.2 second.2 (merged first.0 second.0 t.0 first.1 second.1 t.1))
+merged_has planes old new a b operator table (Err e) is_table ok live merged = tt

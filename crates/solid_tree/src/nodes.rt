@@ -42,9 +42,12 @@ fn node_tree(
             combined(alloc, book, pool, *operator, first, second)
         }
         GridNode::Union { parts } => {
+            let _live = pool.count();
+            let parts = parts.as_slice();
             let mut trees = Vec::new(alloc);
-            for part in parts.as_slice() {
-                trees.push(node_tree(alloc, book, pool, part)?)?;
+            for part in parts {
+                let tree = node_tree(alloc, book, pool, part)?;
+                trees.push(tree)?;
             }
             united(alloc, book, pool, trees)
         }
@@ -69,9 +72,11 @@ pub(crate) fn union_tree(
     ensures kept { KeepsTrees pool.old pool.new }
     ensures trees { AreTrees pool.new }
 {
+    let _live = pool.count();
     let mut trees = Vec::new(alloc);
     for node in nodes {
-        trees.push(node_tree(alloc, book, pool, node)?)?;
+        let tree = node_tree(alloc, book, pool, node)?;
+        trees.push(tree)?;
     }
     united(alloc, book, pool, trees)
 }

@@ -1,4 +1,4 @@
 pub mod Grown
 pub mod Covers
-mod Regions
+mod Below
 pub mod Wholes

@@ -21,7 +21,7 @@ use Rattle.parity_trees.specs.declared.regions.Region.{Region}
 use Rattle.parity_trees.specs.Regions.{all_sides, IsOffSides, IsParityOf}
 use Rattle.triangle_trees.specs.Forms.{HasFormOf, IsOffAll, AreRegionsBelow, IsTreeOf}
 use Rattle.triangle_trees.proofs.Covers.{off_form}
-use Rattle.triangle_trees.proofs.Regions.{differ_false}
+use Rattle.triangle_trees.proofs.Below.{differ_false}
 
 pub off_level : (planes : List BookPlane) (ks : List Plane) (n : ℕ) (q : Point) → HasFormOf planes ks n → IsOffAll ks q → level_by (slice_get planes n) q ≢ pos 0
 off_level planes ks n q f off z = off_form f.1 f.0 q f.4 (off f.1 f.3) (sym (ap (λ o. level_by o q) f.2) ∙ z)

@@ -1,4 +1,5 @@
 ghost use Rattle.std.specs.Prelude.{◌≡◌, ◌^◌, ◌<◌, ◌+◌, pos, int_lt, length, IfOk};
+ghost use Rattle.spec_space.specs.Points.{value};
 ghost use Rattle.ray_law.specs.Columns.{is_in_front, point_at};
 ghost use Rattle.plane_core.specs.Views.{plane_of};
 ghost use Rattle.grid_boxes.specs.Ranges.{AreSteps};
@@ -12,12 +13,12 @@ use spec_space::Vector;
 use std::alloc::AllocError;
 use triangle_planes::TriangleForms;
 
-/// Whether a place lies strictly in front of a plane.
-fn lies_in_front(plane: &Plane, place: Vector) -> bool
+/// The value of a plane at a place: above 0 in front, and below 0 behind.
+fn value_at(plane: &Plane, place: Vector) -> i128
     requires place { AreSteps place }
-    ensures value { result ≡ is_in_front (point_at place) (plane_of plane.now) }
+    ensures value { result ≡ value (plane_of plane.now) (point_at place) }
 {
-    plane.a * place.x + plane.b * place.y + plane.c * place.z - plane.d > 0
+    plane.a * place.x + plane.b * place.y + plane.c * place.z - plane.d
 }
 
 /// The side of a wall on which a place lies. The wall is added to the book. The error is want of memory.
@@ -27,7 +28,7 @@ fn wall_side(book: &mut PlaneBook, wall: Plane, place: Vector) -> Result<Step, A
     ensures side { IfOk result (IsSideOf book.new wall (is_in_front (point_at place) (plane_of wall))) }
     ensures grown { IsGrown 1 book.old book.new }
 {
-    let in_front = lies_in_front(&wall, place);
+    let in_front = value_at(&wall, place) > 0;
     let plane = book.add(wall)?;
     Ok(Step { plane, in_front })
 }
