@@ -1,5 +1,5 @@
 -- The tree of an element.
-use Rattle.std.proofs.Common.{◌≡◌, ◌≢◌, ℕ, ℤ, pos, ◌*ℤ◌, Bool, false, not, ◌&&◌, List, ◌++◌, Some, slice_get, refl, sym, ap, subst, ◌∙◌, arith}
+use Rattle.std.proofs.Common.{◌≡◌, ◌≢◌, ℕ, ℤ, pos, ◌*ℤ◌, Bool, false, not, ◌&&◌, List, ◌++◌, Some, slice_get, refl, sym, ap, subst, ◌∙◌, inl, inr, arith}
 use Rattle.std.specs.List.{flat_map, Contains}
 use Rattle.std.proofs.lemmas.List.Elements.{Contains-append_left, Contains-append_right}
 use Rattle.std.proofs.Math.Logic.{∥∥₁_elim}
@@ -18,9 +18,13 @@ use Rattle.grid_solid.specs.Triangles.{HasForm}
 use Rattle.grid_solid.specs.Bodies.{body_of}
 use Rattle.grid_solid.specs.declared.solids.GridSolid.{GridSolid}
 use Rattle.grid_solid.proofs.Laws.{body_formed}
+use Rattle.tree_pool.specs.declared.node.TreeId.{TreeId}
 use Rattle.tree_pool.specs.Trees.{Tree}
+use Rattle.tree_pool.specs.Pools.{Slots, StandsFor, AreTrees}
+use Rattle.tree_pool.specs.Kept.{IsKept}
 use Rattle.triangle_trees.specs.Forms.{IsTreeOf, IsOffAll}
 use Rattle.triangle_trees.proofs.Covers.{value_of_times}
+use Rattle.solid_tree.specs.Unions.{HasTree}
 use Rattle.solid_tree.specs.Elements.{IsElementTree}
 use Rattle.solid_tree.proofs.Trees.{tree_wider}
 
@@ -47,3 +51,18 @@ items_wider planes body f is = tree_wider planes (flat_map solid_planes body.ite
 
 pub openings_wider : (planes : List BookPlane) (body : Body) (f : Tree) → IsTreeOf planes (flat_map solid_planes body.openings) (is_inside_some body.openings) f → IsTreeOf planes (body_planes body) (is_inside_some body.openings) f
 openings_wider planes body f is = tree_wider planes (flat_map solid_planes body.openings) (body_planes body) (λ k c. Contains-append_right (flat_map solid_planes body.items) (flat_map solid_planes body.openings) k c) (is_inside_some body.openings) f is
+
+-- ---- in a pool that is swept
+pub has_swept : (before after : Slots) (planes : List BookPlane) (roots : List TreeId) → ((id : TreeId) (t : Tree) → IsKept before roots id → StandsFor before id t → StandsFor after id t) → (ks : List Plane) (told : Point → Bool) (id : TreeId) → Contains roots id
+    → HasTree before planes ks told id → HasTree after planes ks told id
+has_swept before after planes roots kept ks told id root h = (h.0, kept id h.0 (0, inr root) h.1, h.2)
+
+pub items_has : (pool : Slots) (planes : List BookPlane) (body : Body) (id : TreeId) → HasTree pool planes (flat_map solid_planes body.items) (is_inside_some body.items) id → HasTree pool planes (body_planes body) (is_inside_some body.items) id
+items_has pool planes body id h = (h.0, h.1, items_wider planes body h.0 h.2)
+
+pub openings_has : (pool : Slots) (planes : List BookPlane) (body : Body) (id : TreeId) → HasTree pool planes (flat_map solid_planes body.openings) (is_inside_some body.openings) id → HasTree pool planes (body_planes body) (is_inside_some body.openings) id
+openings_has pool planes body id h = (h.0, h.1, openings_wider planes body h.0 h.2)
+
+-- the tree of a number that has it
+pub tree_has : (pool : Slots) (planes : List BookPlane) (ks : List Plane) (told : Point → Bool) (id : TreeId) → AreTrees pool → HasTree pool planes ks told id → (t : Tree) → StandsFor pool id t → IsTreeOf planes ks told t
+tree_has pool planes ks told id ok h t stands = subst (IsTreeOf planes ks told) (ok.one_tree id h.0 t h.1 stands) h.2

@@ -1,11 +1,12 @@
 -- Trees that tell meanings: in a pool and a book that have grown, and merged.
-use Rattle.std.proofs.Common.{◌≡◌, ◌⊎◌, ℕ, Bool, List, Some, slice_get, refl, sym, ap, subst, ◌∙◌, inl, inr}
+use Rattle.std.proofs.Common.{◌≡◌, ◌⊎◌, ℕ, Bool, true, false, List, Some, slice_get, refl, sym, ap, subst, ◌∙◌, inl, inr}
 use Rattle.std.specs.Prelude.{◌||◌, Result, Ok, Err, IfOk}
 use Rattle.std.specs.List.{Contains}
 use Rattle.std.specs.declared.alloc.AllocError.{AllocError}
 use Rattle.spec_space.specs.declared.Point.{Point}
 use Rattle.spec_space.specs.declared.Plane.{Plane}
 use Rattle.spec_solid.specs.declared.BoolOp.{BoolOp}
+use Rattle.spec_solid.specs.declared.BoolOp.TheVariants.{Union, Intersection, Difference}
 use Rattle.spec_solid.specs.Solids.{truth}
 use Rattle.plane_core.specs.declared.numbers.Plane.{Plane as BookPlane}
 use Rattle.tree_pool.specs.declared.node.TreeId.{TreeId}
@@ -66,3 +67,22 @@ merged_has planes old new a b operator table (Ok id) is_table ok live merged = �
     let t = ok.tree id live in
     (t.0, t.1, merge_tells planes ks p q operator table is_table first.0 second.0 t.0 first.2 second.2 (merged first.0 second.0 t.0 first.1 second.1 t.1))
 merged_has planes old new a b operator table (Err e) is_table ok live merged = tt
+
+-- ---- the tables of the operators
+pub union_table : (p q : Bool) → entry (record { both = true; first_only = true; second_only = true; neither = false }) p q ≡ truth Union p q
+union_table true true = refl
+union_table true false = refl
+union_table false true = refl
+union_table false false = refl
+
+pub intersection_table : (p q : Bool) → entry (record { both = true; first_only = false; second_only = false; neither = false }) p q ≡ truth Intersection p q
+intersection_table true true = refl
+intersection_table true false = refl
+intersection_table false true = refl
+intersection_table false false = refl
+
+pub difference_table : (p q : Bool) → entry (record { both = false; first_only = true; second_only = false; neither = false }) p q ≡ truth Difference p q
+difference_table true true = refl
+difference_table true false = refl
+difference_table false true = refl
+difference_table false false = refl

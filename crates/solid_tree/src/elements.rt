@@ -1,9 +1,7 @@
-ghost use Rattle.std.specs.Prelude.{◌≡◌, ◌^◌, ◌<◌, ◌+◌, ◌∷◌, [], Bool, length, slice_get, Some, false, IfOk};
+ghost use Rattle.std.specs.Prelude.{◌^◌, ◌<◌, ◌+◌, length, IfOk};
 ghost use Rattle.grid_solid.specs.Bodies.{body_of};
 ghost use Rattle.tree_pool.specs.Trees.{Tree};
 ghost use Rattle.tree_pool.specs.Pools.{IsLive, StandsFor, AreTrees};
-ghost use Rattle.tree_pool.specs.Kept.{IsKept};
-ghost use Rattle.tree_pool.specs.declared.node.TreeId.{TreeId as AnyId};
 ghost use Rattle.triangle_trees.specs.Forms.{IsGrown};
 ghost use Rattle.solid_tree.specs.Elements.{body_plane_count, IsElementTree, IsTight};
 
@@ -18,8 +16,8 @@ use tree_pool::{Pool, TreeId};
 /// The tree of an element: at each point strictly inside the enclosing cube and off the planes of the element it has the
 /// element's meaning, and its planes are planes of the element. It is false where a coordinate has a size above 2^20 grid
 /// steps. The planes are added to the book, at most four for each triangle, and one for each half-space, also where memory
-/// is wanting. The pool is swept: then it has the two leaves and what this tree reaches, and no other numbers. The error is
-/// want of memory.
+/// is wanting. The pool is swept: numbers that it had before are gone unless this tree reaches them. The error is want of
+/// memory.
 pub fn solid_tree(
     alloc: Global,
     book: &mut PlaneBook,
@@ -31,7 +29,6 @@ pub fn solid_tree(
     ensures tight { IfOk result (λ id. (t : Tree) → StandsFor pool.new id t → IsTight book.new t) }
     ensures live { IfOk result (IsLive pool.new) }
     ensures grown { IsGrown (body_plane_count (body_of solid.now)) book.old book.new }
-    ensures swept { IfOk result (λ id. (other : AnyId) → IsLive pool.new other → IsKept pool.new (id ∷ []) other) }
     ensures trees { AreTrees pool.new }
 {
     let items = union_tree(alloc, book, pool, solid.items.as_slice())?;

@@ -1,8 +1,8 @@
 -- Regions below triangles, one after another, in a book that grows.
-use Rattle.std.proofs.Common.{◌≡◌, ◌≢◌, ℕ, ◌<◌, ℤ, pos, Bool, true, false, ◌&&◌, List, [], ◌∷◌, ◌++◌, length, slice_get, unsigned_abs, refl, sym, ap, subst, ◌∙◌, inl, inr, arith}
+use Rattle.std.proofs.Common.{◌≡◌, ◌≢◌, ℕ, zero, suc, map, get_or, ◌<◌, ℤ, pos, Bool, true, false, ◌&&◌, List, [], ◌∷◌, ◌++◌, length, slice_get, unsigned_abs, refl, sym, ap, subst, ◌∙◌, inl, inr, arith}
 use Rattle.std.specs.Prelude.{◌==◌, if◌then◌else◌}
-use Rattle.std.specs.List.{Contains, flat_map}
-use Rattle.std.proofs.lemmas.List.Elements.{Contains-append_left, Contains-append_right, Contains-append_cases}
+use Rattle.std.specs.List.{All, Contains, flat_map}
+use Rattle.std.proofs.lemmas.List.Elements.{All-head, All-tail, Contains-append_left, Contains-append_right, Contains-append_cases}
 use Rattle.spec_space.specs.declared.Point.{Point}
 use Rattle.spec_space.specs.declared.Plane.{Plane}
 use Rattle.spec_solid.specs.Triangles.{Triangle, turn, differ}
@@ -15,6 +15,8 @@ use Rattle.poly_frag.specs.Frags.{numbered, kept_side}
 use Rattle.plane_cells.specs.declared.steps.Step.{Step}
 use Rattle.parity_trees.specs.declared.regions.Region.{Region}
 use Rattle.parity_trees.specs.Regions.{is_on_all, lies_in_oddly, all_sides}
+use Rattle.grid_solid.specs.Triangles.{triangle_of}
+use Rattle.grid_solid.specs.declared.triangles.GridTriangle.{GridTriangle}
 use Rattle.triangle_trees.specs.Forms.{IsGrown, HasFormOf, IsOffAll, IsRegionBelow, AreRegionsBelow}
 use Rattle.triangle_trees.proofs.Grown.{form_kept, form_same}
 
@@ -111,3 +113,9 @@ no_regions planes = record { covers = λ q off. refl; forms = λ s c. absurd (no
   where
     none : (s : Step) → Contains [] s → ⊥
     none s (i, h, e) = omega arith
+
+-- what holds of all triangles holds of the one at a place
+pub each_at : (P : Triangle → Type 0) (xs : List GridTriangle) (i : ℕ) (d : GridTriangle) → All P (map triangle_of xs) → i < length xs → P (triangle_of (get_or xs i d))
+each_at P [] i d all h = absurd (omega arith)
+each_at P (x ∷ xs) zero d all h = All-head P (triangle_of x) (map triangle_of xs) all
+each_at P (x ∷ xs) (suc i) d all h = each_at P xs i d (All-tail P (triangle_of x) (map triangle_of xs) all) (omega arith)

@@ -27,7 +27,8 @@ use Rattle.parity_trees.specs.Regions.{is_on_all}
 use Rattle.triangle_planes.specs.declared.forms.TriangleForms.{TriangleForms}
 use Rattle.triangle_planes.specs.Planes.{IsFormOf, AreReduced}
 use Rattle.triangle_planes.proofs.Laws.{planes_steep}
-use Rattle.triangle_trees.specs.Forms.{IsSideOf, AreSidesBelow, HasFormOf, IsOffAll, IsRegionBelow}
+use Rattle.triangle_trees.specs.Forms.{IsGrown, IsSideOf, AreSidesBelow, HasFormOf, IsOffAll, IsRegionBelow}
+use Rattle.triangle_trees.proofs.Grown.{side_kept}
 
 -- ---- a plane and its reduced form
 pub value_of_times : (m : ℤ) (h k : Plane) (q : Point) → IsTimes m h k → value k q ≡ m *ℤ value h q
@@ -53,9 +54,13 @@ turned_flag v off = below_turned v ∙ not_twice (int_lt v (pos 0)) ∙ ap not (
     not_twice false = refl
 
     below_turned : (v : ℤ) → int_lt (pos 0) (neg_ℤ v) ≡ int_lt v (pos 0)
-    below_turned (pos zero) = refl
-    below_turned (pos (suc n)) = refl
-    below_turned (negsuc n) = refl
+    below_turned v = by (int_lt (pos 0) (neg_ℤ v)) (int_lt v (pos 0)) refl refl
+      where
+        by : (b d : Bool) → int_lt (pos 0) (neg_ℤ v) ≡ b → int_lt v (pos 0) ≡ d → b ≡ d
+        by true true e f = refl
+        by true false e f = absurd (omega (arith, ints))
+        by false true e f = absurd (omega (arith, ints))
+        by false false e f = refl
 
 kept_flag : (f : Bool) (h : Plane) (q : Point) → value h q ≢ pos 0 → is_in_front (kept_side f h) q ≡ same f (is_before q h)
 kept_flag true h q off = refl
@@ -136,3 +141,21 @@ module _ (planes : List BookPlane) (t : Triangle) (forms : TriangleForms) (is : 
       covers = λ q off. ap (λ s. is_on_all planes s q) e ∙ covers q off;
       forms = λ s c. forms_of_four s (subst (λ ss. Contains ss s) (e ∙ below.are) c);
     }
+
+-- the four sides, each added to the book after the one before
+pub sides_are : (a b c d : List BookPlane) (t : Triangle) (forms : TriangleForms) (ab bc ca through : Step) (sides : List Step) → sides ≡ ab ∷ bc ∷ ca ∷ through ∷ []
+    → IsGrown 1 a b → IsGrown 1 b c → IsGrown 1 c d
+    → IsSideOf a forms.ab (is_before (point_at t.c) (plane_of forms.ab)) ab → IsSideOf b forms.bc (is_before (point_at t.a) (plane_of forms.bc)) bc
+    → IsSideOf c forms.ca (is_before (point_at t.b) (plane_of forms.ca)) ca → IsSideOf d forms.through (int_lt forms.through.c (pos 0)) through
+    → AreSidesBelow d t forms sides
+sides_are a b c d t forms ab bc ca through sides are p q r s u v w = record {
+  ab = ab;
+  bc = bc;
+  ca = ca;
+  through = through;
+  are = are;
+  ab_side = side_kept 1 c d r forms.ab (is_before (point_at t.c) (plane_of forms.ab)) ab (side_kept 1 b c q forms.ab (is_before (point_at t.c) (plane_of forms.ab)) ab (side_kept 1 a b p forms.ab (is_before (point_at t.c) (plane_of forms.ab)) ab s));
+  bc_side = side_kept 1 c d r forms.bc (is_before (point_at t.a) (plane_of forms.bc)) bc (side_kept 1 b c q forms.bc (is_before (point_at t.a) (plane_of forms.bc)) bc u);
+  ca_side = side_kept 1 c d r forms.ca (is_before (point_at t.b) (plane_of forms.ca)) ca v;
+  through_side = w;
+}

@@ -38,3 +38,13 @@ module _ (n : ℕ) (old new : List BookPlane) (grown : IsGrown n old new) where
 
   pub form_same : (ks : List Plane) (k : ℕ) → HasFormOf old ks k → slice_get new k ≡ slice_get old k
   form_same ks k f = grown.same k (slice_get_within old k f.0 f.2)
+
+-- ---- planes added one after another
+pub grown_two : (a b c : List BookPlane) → IsGrown 1 a b → IsGrown 1 b c → IsGrown 2 a c
+grown_two a b c p q = grown_further 1 1 2 a b c (omega arith) p q
+
+pub grown_three : (a b c d : List BookPlane) → IsGrown 1 a b → IsGrown 1 b c → IsGrown 1 c d → IsGrown 3 a d
+grown_three a b c d p q r = grown_further 2 1 3 a c d (omega arith) (grown_two a b c p q) r
+
+pub grown_four : (a b c d e : List BookPlane) → IsGrown 1 a b → IsGrown 1 b c → IsGrown 1 c d → IsGrown 1 d e → IsGrown 4 a e
+grown_four a b c d e p q r s = grown_further 3 1 4 a d e (omega arith) (grown_three a b c d p q r) s

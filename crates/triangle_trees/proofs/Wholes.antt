@@ -1,5 +1,5 @@
 -- Trees of faces and primitives.
-use Rattle.std.proofs.Common.{◌≡◌, ◌≢◌, ◌⊎◌, ℕ, zero, suc, ◌<◌, ℤ, pos, negsuc, ◌*ℤ◌, ◌<ℤ◌, int_lt, Bool, true, false, not, List, [], ◌∷◌, ◌++◌, map, slice_get, Some, refl, sym, ap, subst, ◌∙◌, inl, inr, arith}
+use Rattle.std.proofs.Common.{◌≡◌, ◌≢◌, ◌⊎◌, ℕ, zero, suc, ◌*◌, length, ◌<◌, ℤ, pos, negsuc, ◌*ℤ◌, ◌<ℤ◌, int_lt, Bool, true, false, not, List, [], ◌∷◌, ◌++◌, map, slice_get, Some, refl, sym, ap, subst, ◌∙◌, inl, inr, arith}
 use Rattle.std.specs.Prelude.{if◌then◌else◌}
 use Rattle.std.specs.List.{Contains, flat_map}
 use Rattle.std.proofs.lemmas.Int.{ints}
@@ -15,7 +15,14 @@ use Rattle.plane_core.specs.declared.numbers.Plane.{Plane as BookPlane}
 use Rattle.plane_core.specs.Views.{plane_of}
 use Rattle.tree_pool.specs.Trees.{Tree, leaf, level_by, value_of, IsPlaneOf, IsTreeOver}
 use Rattle.grid_solid.specs.Triangles.{triangle_of}
+use Rattle.grid_solid.specs.Shapes.{shape_solid}
+use Rattle.grid_solid.specs.Views.{solid_of}
+use Rattle.grid_solid.proofs.Folds.{shape-Shell}
+use Rattle.grid_solid.specs.declared.triangles.GridTriangle.{GridTriangle}
+use Rattle.grid_solid.specs.declared.nodes.GridNode.{GridNode}
+use Rattle.grid_solid.specs.declared.nodes.GridNode.TheVariants as nodes
 use Rattle.grid_solid.specs.declared.shells.GridShell.{GridShell}
+use Rattle.triangle_trees.specs.Primitives.{plane_count}
 use Rattle.plane_cells.specs.declared.steps.Step.{Step}
 use Rattle.parity_trees.specs.declared.regions.Region.{Region}
 use Rattle.parity_trees.specs.Regions.{all_sides, IsOffSides, IsParityOf}
@@ -102,3 +109,20 @@ module _ (planes : List BookPlane) (p : BookPlane) (f : Bool) (n : ℕ) (number 
       by m (inl e) = (p, plane_of p, ap (slice_get planes) e ∙ number, (0, omega arith, refl), record { factor = pos 1; some = λ z. omega (arith, ints); times = (once p.a, once p.b, once p.c, once p.d) })
       by m (inr (inl i)) = absurd i
       by m (inr (inr i)) = absurd i
+
+-- ---- nodes that are shells
+pub node_shell : (node : GridNode) (shell : GridShell) → node ≡ nodes.Shell shell → solid_of node ≡ Shell (map triangle_of shell.triangles)
+node_shell node shell e = ap solid_of e ∙ ap shape_solid (shape-Shell shell)
+
+same_length : (xs : List GridTriangle) → length (map triangle_of xs) ≡ length xs
+same_length [] = refl
+same_length (x ∷ xs) = ap suc (same_length xs)
+
+pub node_count : (node : GridNode) (shell : GridShell) (xs : List GridTriangle) → node ≡ nodes.Shell shell → xs ≡ shell.triangles → plane_count (solid_of node) ≡ 4 * length xs
+node_count node shell xs e f = ap plane_count (node_shell node shell e) ∙ ap (λ n. 4 * n) (same_length shell.triangles ∙ sym (ap length f))
+
+pub node_is : (planes : List BookPlane) (node : GridNode) (shell : GridShell) (xs : List GridTriangle) (tree : Tree) → node ≡ nodes.Shell shell → xs ≡ shell.triangles
+    → IsTreeOf planes (flat_map triangle_planes (map triangle_of xs)) (is_covered_oddly (map triangle_of xs)) tree → IsTreeOf planes (solid_planes (solid_of node)) (is_inside (solid_of node)) tree
+node_is planes node shell xs tree e f is =
+    subst (λ s. IsTreeOf planes (solid_planes s) (is_inside s) tree) (sym (node_shell node shell e))
+    (shell_is planes shell tree (subst (λ ts. IsTreeOf planes (flat_map triangle_planes (map triangle_of ts)) (is_covered_oddly (map triangle_of ts)) tree) f is))

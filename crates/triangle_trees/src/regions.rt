@@ -49,10 +49,13 @@ fn add_region(
     ensures added { OnOk result ((ts : List Triangle) → AreRegionsBelow book.old ts regions.old.items → AreRegionsBelow book.new (ts ++ triangle_of t.now ∷ []) regions.new.items) }
     ensures grown { IsGrown 4 book.old book.new }
 {
-    if let Some(region) = region_below(alloc, book, t)? {
-        regions.push(region)?;
+    match region_below(alloc, book, t)? {
+        Some(region) => {
+            regions.push(region)?;
+            Ok(())
+        }
+        None => Ok(()),
     }
-    Ok(())
 }
 
 /// The regions below triangles. Their planes are added to the book. The error is want of memory.
