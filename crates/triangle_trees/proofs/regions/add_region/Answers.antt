@@ -13,7 +13,7 @@ returns-in_ok-push-in-Some-clause-added c ts are =
     let t = triangle_of c.args.t.now in
     let rs = c.args.regions.now.items in
     let region = c.in-Some.region in
-    let is = subst (λ o. IfSome o (IsRegionBelow new t)) c.in-Some.is c.in_ok-region_below.ensures.region in
+    let is = subst (λ o. IfSome o (IsRegionBelow new t)) c.in-Some.is c.in_ok-region.ensures.region in
     subst (AreRegionsBelow new (ts ++ t ∷ [])) (sym c.in_ok-push-in-Some.ensures.items) (region_added 4 old new c.region_below.ensures.grown ts rs t region is are)
 
 pub returns-in-None-clause-added : goal.returns-in-None-clause-added
@@ -21,5 +21,5 @@ returns-in-None-clause-added c ts are =
     let old = c.args.book.now in
     let new = c.region_below.new.book in
     let t = triangle_of c.args.t.now in
-    let upright = subst (λ o. IfNone o ((turn t).z ≡ pos 0)) c.in-None.is c.in_ok-region_below.ensures.upright in
+    let upright = subst (λ o. IfNone o ((turn t).z ≡ pos 0)) c.in-None.is c.in_ok-region.ensures.upright in
     upright_added 4 old new c.region_below.ensures.grown ts c.args.regions.now.items t upright are
