@@ -111,9 +111,11 @@ least : (v : ℤ) → unsigned_abs v ≤ 2 ^ 20 → negsuc 1048575 ≤ℤ v
 least v h = omega (arith, ints)
 
 -- ---- low corners
-low_test : (x y : ℤ) (b : Bool) → int_le x y ≡ b → (if b then pos 0 ≤ℤ (y -ℤ x) else pos 0 <ℤ (x -ℤ y))
-low_test x y true e = omega (arith, ints)
-low_test x y false e = omega (arith, ints)
+low_end : (x y : ℤ) → int_le x y ≡ true → pos 0 ≤ℤ (y -ℤ x)
+low_end x y e = omega (arith, ints)
+
+high_end : (x y : ℤ) → int_le x y ≡ false → pos 0 <ℤ (x -ℤ y)
+high_end x y e = omega (arith, ints)
 
 all_low : (x y : ℤ) (b : Bool) → int_le x y ≡ b → pos 0 <ℤ (y -ℤ x) → b ≡ true
 all_low x y true e h = refl
@@ -164,8 +166,8 @@ module _ (q : Point) (point : IsPoint q) where
     where
       cases : (s t : Bool) → low ay ≡ s → low by ≡ t → passes s t (rises at ac ay bc by) (rises at bc by ac ay) ≡ false
       cases true true e f = refl
-      cases true false e f = rises_not q.w ac ay bc by at q.y point (low_test (ay *ℤ q.w) q.y true e) (low_test (by *ℤ q.w) q.y false f) p r
-      cases false true e f = rises_not q.w bc by ac ay at q.y point (low_test (by *ℤ q.w) q.y true f) (low_test (ay *ℤ q.w) q.y false e) r p
+      cases true false e f = rises_not q.w ac ay bc by at q.y point (low_end (ay *ℤ q.w) q.y e) (high_end (by *ℤ q.w) q.y f) p r
+      cases false true e f = rises_not q.w bc by ac ay at q.y point (low_end (by *ℤ q.w) q.y f) (high_end (ay *ℤ q.w) q.y e) r p
       cases false false e f = refl
 
   -- both ends are above the point
@@ -174,8 +176,8 @@ module _ (q : Point) (point : IsPoint q) where
     where
       cases : (s t : Bool) → low ay ≡ s → low by ≡ t → passes s t (rises at ac ay bc by) (rises at bc by ac ay) ≡ differ s t
       cases true true e f = refl
-      cases true false e f = rises_all q.w ac ay bc by at q.y point (low_test (ay *ℤ q.w) q.y true e) (low_test (by *ℤ q.w) q.y false f) p r
-      cases false true e f = rises_all q.w bc by ac ay at q.y point (low_test (by *ℤ q.w) q.y true f) (low_test (ay *ℤ q.w) q.y false e) r p
+      cases true false e f = rises_all q.w ac ay bc by at q.y point (low_end (ay *ℤ q.w) q.y e) (high_end (by *ℤ q.w) q.y f) p r
+      cases false true e f = rises_all q.w bc by ac ay at q.y point (low_end (by *ℤ q.w) q.y f) (high_end (ay *ℤ q.w) q.y e) r p
       cases false false e f = refl
 
   abbrev three : ℤ → ℤ → ℤ → ℤ → ℤ → ℤ → ℤ → Bool

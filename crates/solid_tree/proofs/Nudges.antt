@@ -5,12 +5,12 @@ use Rattle.std.proofs.lemmas.Int.{ints}
 use Rattle.spec_space.specs.declared.Point.{Point}
 use Rattle.spec_space.specs.declared.Plane.{Plane}
 use Rattle.spec_space.specs.Points.{IsPoint, value}
-use Rattle.integer_laws.proofs.Ring.{var, ◌⊕◌, ◌⊗◌, ◌⊖◌, ring}
+use Rattle.integer_laws.proofs.Ring.{var, con, neg, ◌⊕◌, ◌⊗◌, ◌⊖◌, ring}
 use Rattle.integer_laws.proofs.Signs.{mul_positive, mul_nonneg}
 use Rattle.integer_laws.proofs.Cancel.{sign_cases, mul_zero_right}
 
 -- the product of two normals
-abbrev dot : Plane → Plane → ℤ
+abbrev pub dot : Plane → Plane → ℤ
 dot l k = l.a *ℤ k.a +ℤ l.b *ℤ k.b +ℤ l.c *ℤ k.c
 
 -- the point moved along the normal of a plane, the less the greater n is
@@ -68,7 +68,7 @@ grows n v d p h q = by (n *ℤ v) (n *ℤ (v -ℤ pos 1)) (mul_nonneg n (v -ℤ 
     less v q = omega (arith, ints)
 
     spread : (n v : ℤ) → n *ℤ (v -ℤ pos 1) ≡ n *ℤ v -ℤ n
-    spread n v = omega (arith, ints)
+    spread n v = ring (n ∷ (v ∷ [])) (var 0 ⊗ (var 1 ⊖ con (pos 1))) (var 0 ⊗ var 1 ⊖ var 0) refl
 
     by : (m r : ℤ) → pos 0 ≤ℤ r → r ≡ m -ℤ n → pos 0 <ℤ (m +ℤ d)
     by m r k e = omega (arith, ints)
@@ -83,7 +83,7 @@ falls n v d p h q = by (n *ℤ neg_ℤ v +ℤ neg_ℤ d) (n *ℤ v) (grows n (ne
     up v q = omega (arith, ints)
 
     spread : (n v : ℤ) → n *ℤ neg_ℤ v +ℤ neg_ℤ d ≡ neg_ℤ (n *ℤ v) +ℤ neg_ℤ d
-    spread n v = omega (arith, ints)
+    spread n v = ap (λ x. x +ℤ neg_ℤ d) (ring (n ∷ (v ∷ [])) (var 0 ⊗ neg (var 1)) (neg (var 0 ⊗ var 1)) refl)
 
     by : (s m : ℤ) → pos 0 <ℤ s → s ≡ neg_ℤ m +ℤ neg_ℤ d → (m +ℤ d) <ℤ pos 0
     by s m k e = omega (arith, ints)
@@ -97,7 +97,7 @@ sign_kept n v d p h off = elim (sign_cases v) [
 
 -- ---- off one plane more
 -- the normal is not 0
-pub HasNormal : Plane → Type 0
+abbrev pub HasNormal : Plane → Type 0
 HasNormal k = pos 0 <ℤ dot k k
 
 pub record IsBeside (ls : List Plane) (q p : Point) : Type 0 where

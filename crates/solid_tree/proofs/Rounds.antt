@@ -26,10 +26,13 @@ abbrev pub count_in : List GridNode → ℕ
 count_in ns = all_planes_count (map solid_of ns)
 
 -- ---- one solid more
+taken_one : (ns : List GridNode) (i : ℕ) (n : GridNode) → i < length ns → n ≡ get_or ns i n → take (suc i) ns ≡ take i ns ++ n ∷ []
+taken_one [] i n h e = absurd (omega arith)
+taken_one (x ∷ xs) zero n h e = ap (λ y. y ∷ []) (sym e)
+taken_one (x ∷ xs) (suc i) n h e = ap (λ ys. x ∷ ys) (taken_one xs i n (omega arith) e)
+
 pub taken : (ns : List GridNode) (i : ℕ) (n : GridNode) → i < length ns → n ≡ get_or ns i n → take (i + 1) ns ≡ take i ns ++ n ∷ []
-taken [] i n h e = absurd (omega arith)
-taken (x ∷ xs) zero n h e = ap (λ y. y ∷ []) (sym e)
-taken (x ∷ xs) (suc i) n h e = ap (λ ys. x ∷ ys) (taken xs i n (omega arith) e)
+taken ns i n h e = rw add-one (taken_one ns i n h e)
 
 insides_push : (ns : List GridNode) (n : GridNode) → insides (ns ++ n ∷ []) ≡ insides ns ++ is_inside (solid_of n) ∷ []
 insides_push [] n = refl

@@ -79,8 +79,8 @@ pub(crate) fn united(
         let both = combined(alloc, book, pool, BoolOp::Union, first, second)?;
         trees.push(both)?;
     }
-    match trees.first() {
-        Some(tree) => Ok(*tree),
+    match trees.pop() {
+        Some(tree) => Ok(tree),
         None => Ok(pool.leaf(false)),
     }
 }

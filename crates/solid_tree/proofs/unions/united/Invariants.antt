@@ -6,13 +6,13 @@ use Rattle.solid_tree.specs.Unions.{AreUnited}
 use Rattle.solid_tree.proofs.unions.united.Given as goal
 
 -- the trees that are left have the union of those with which the loop began
-abbrev pub invariant-loop-trees : goal.invariant-loop-trees
-invariant-loop-trees l = record {
+abbrev pub invariant-loop-alloc : goal.invariant-loop-alloc
+invariant-loop-alloc l = record {
   live : All (IsLive l.pool) l.trees.items;
   kept : KeepsTrees l.fn.pool l.pool;
   trees : AreTrees l.pool;
   united : (ks : List Plane) (p : Point → Bool) → AreUnited l.fn.pool l.book ks p l.fn.trees.items → AreUnited l.pool l.book ks p l.trees.items;
 }
 
-abbrev pub decreases-loop-trees : goal.decreases-loop-trees
-decreases-loop-trees l = length l.trees.items
+abbrev pub decreases-loop-alloc : goal.decreases-loop-alloc
+decreases-loop-alloc l = length l.trees.items
