@@ -120,3 +120,7 @@ united_last pool planes ks told xs (x ∷ ys) id h e u = absurd (long (subst (λ
 
 pub united_empty : (pool : Slots) (planes : List BookPlane) (ks : List Plane) (told : Point → Bool) (id : TreeId) → StandsFor pool id (leaf false) → AreUnited pool planes ks told [] → HasTree pool planes ks told id
 united_empty pool planes ks told id stands u = (leaf false, stands, record { value = λ q point cube off. ap Some (united_none pool planes ks told u q); among = λ n is. absurd is })
+
+pub no_items : (xs : List TreeId) → length xs ≤ 0 → xs ≡ []
+no_items [] h = refl
+no_items (x ∷ xs) h = absurd (omega arith)

@@ -1,6 +1,8 @@
 -- Unions of solids, their planes and their meanings; nodes by their variants.
 use Rattle.std.proofs.Common.{◌≡◌, ℕ, ◌+◌, Bool, false, List, [], ◌∷◌, ◌++◌, map, refl, sym, ap, ap₂, subst, ◌∙◌, arith}
-use Rattle.std.specs.Prelude.{◌||◌}
+use Rattle.std.specs.Prelude.{◌||◌, Result, Ok, Err, IfOk}
+use Rattle.std.specs.declared.alloc.AllocError.{AllocError}
+use Rattle.std.proofs.lemmas.List.Elements.{Contains-append_left, Contains-append_right}
 use Rattle.std.specs.List.{flat_map}
 use Rattle.spec_space.specs.declared.Point.{Point}
 use Rattle.spec_space.specs.declared.Plane.{Plane}
@@ -18,7 +20,7 @@ use Rattle.plane_core.specs.declared.numbers.Plane.{Plane as BookPlane}
 use Rattle.tree_pool.specs.declared.node.TreeId.{TreeId}
 use Rattle.tree_pool.specs.Pools.{Slots}
 use Rattle.triangle_trees.specs.Forms.{IsTreeOf}
-use Rattle.solid_tree.proofs.Trees.{tree_same}
+use Rattle.solid_tree.proofs.Trees.{tree_same, tree_wider}
 use Rattle.solid_tree.specs.Unions.{HasTree, HaveTrees, AreUnited, some_told}
 use Rattle.solid_tree.specs.Elements.{all_planes_count}
 
@@ -70,3 +72,17 @@ node_union pool planes node parts id e h =
 pub all_united : (pool : Slots) (planes : List BookPlane) (ns : List GridNode) (ids : List TreeId) → HaveTrees pool planes (flat_map solid_planes (map solid_of ns)) (insides ns) ids
     → AreUnited pool planes (flat_map solid_planes (map solid_of ns)) (is_inside_some (map solid_of ns)) ids
 all_united pool planes ns ids h = (insides ns, h, some_inside ns)
+
+-- the number of what an operator makes of the solids of two nodes
+pub combined_node : (old new : Slots) (planes : List BookPlane) (node f s : GridNode) (operator : BoolOp) (first second : TreeId) (r : Result TreeId AllocError) → solid_of node ≡ solids.Combined operator (solid_of f) (solid_of s)
+    → HasTree old planes (solid_planes (solid_of f)) (is_inside (solid_of f)) first → HasTree old planes (solid_planes (solid_of s)) (is_inside (solid_of s)) second
+    → IfOk r (λ id. (ks : List Plane) (p q : Point → Bool) → HasTree old planes ks p first → HasTree old planes ks q second → HasTree new planes ks (λ x. truth operator (p x) (q x)) id)
+    → IfOk r (HasTree new planes (solid_planes (solid_of node)) (is_inside (solid_of node)))
+combined_node old new planes node f s operator first second (Err x) e a b made = tt
+combined_node old new planes node f s operator first second (Ok id) e a b made =
+    let fs = solid_planes (solid_of f) in
+    let ss = solid_planes (solid_of s) in
+    node_combined new planes node f s operator id e
+    (made (fs ++ ss) (is_inside (solid_of f)) (is_inside (solid_of s))
+    (a.0, a.1, tree_wider planes fs (fs ++ ss) (λ k c. Contains-append_left fs ss k c) (is_inside (solid_of f)) a.0 a.2)
+    (b.0, b.1, tree_wider planes ss (fs ++ ss) (λ k c. Contains-append_right fs ss k c) (is_inside (solid_of s)) b.0 b.2))

@@ -1,7 +1,7 @@
 use Rattle.std.proofs.Common.{◌≡◌, [], ◌∷◌, ◌++◌, sym, ap, subst, ◌∙◌, arith}
 use Rattle.tree_pool.proofs.Laws.{live_kept}
 use Rattle.solid_tree.specs.Unions.{AreUnited}
-use Rattle.solid_tree.proofs.Lists.{first_of, united_round, live_round, united_last, united_empty}
+use Rattle.solid_tree.proofs.Lists.{first_of, united_round, live_round, united_last, united_empty, no_items}
 use Rattle.solid_tree.proofs.unions.united.Goals as goal
 
 pub loop-alloc-preserved : goal.loop-alloc-preserved
@@ -32,4 +32,4 @@ returns-in-Some-clause-united c ks p u =
 pub returns-clause-united : goal.returns-clause-united
 returns-clause-united c ks p u =
     united_empty c.loop-alloc.pool c.args.book.now ks p c.leaf.result c.leaf.ensures.stands
-    (subst (AreUnited c.loop-alloc.pool c.args.book.now ks p) ? (c.loop-alloc.invariant.united ks p u))
+    (subst (AreUnited c.loop-alloc.pool c.args.book.now ks p) (no_items c.loop-alloc.trees.items (omega arith)) (c.loop-alloc.invariant.united ks p u))
