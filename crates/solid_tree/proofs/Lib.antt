@@ -2,6 +2,7 @@ mod Trees
 mod Lists
 mod UnionLaws
 mod Rounds
+mod Shrinks
 mod ElementLaws
 mod Far
 mod Nudges

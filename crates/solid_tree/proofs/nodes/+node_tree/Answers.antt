@@ -5,7 +5,10 @@ use Rattle.spec_space.specs.declared.Plane.{Plane}
 use Rattle.spec_space.specs.declared.Point.{Point}
 use Rattle.spec_solid.specs.Planes.{solid_planes}
 use Rattle.spec_solid.specs.Solids.{is_inside, is_inside_some}
-use Rattle.grid_solid.specs.Views.{solid_of}
+use Rattle.grid_solid.specs.Shapes.{shape_solid}
+use Rattle.grid_solid.specs.Views.{shape_of, solid_of}
+use Rattle.grid_solid.proofs.Folds.{shape-Combined}
+use Rattle.solid_tree.proofs.Shrinks.{size_of, part_smaller, first_smaller, second_smaller}
 use Rattle.tree_pool.specs.declared.node.TreeId.{TreeId}
 use Rattle.tree_pool.specs.Pools.{IsLive}
 use Rattle.tree_pool.proofs.Laws.{live_kept}
@@ -26,7 +29,29 @@ node_tree-requires-in-loop-part t c =
     let k = room_for ns c.loop-part.part-index c.part-item.result c.loop-part-test.true c.part-item.is in
     let m = c.loop-part.invariant.grown.most in
     let r = subst (λ n. length c.args.book.now + n < 2 ^ 31) count c.requires.room in
-    (search rules, omega arith)
+    let small = part_smaller c.args.node.now c.in-Union.parts ns c.loop-part.part-index c.part-item.result c.in-Union.is c.as_slice-parts.ensures c.loop-part-test.true c.part-item.is in
+    let d : size_of (shape_of c.args.node.now) ≡ t = c.decreases in
+    (subst (λ n. size_of (shape_of c.part-item.result) < n) d small, omega arith)
+
+pub node_tree-requires : goal.node_tree-requires
+node_tree-requires t c =
+    let count = ap plane_count (ap solid_of c.in-Combined.is ∙ ap shape_solid (shape-Combined c.in-Combined.operator c.in-Combined.first c.in-Combined.second)) in
+    let same : plane_count (solid_of c.get.result.now) ≡ plane_count (solid_of c.in-Combined.first) = ap (λ n. plane_count (solid_of n)) c.get.ensures in
+    let r = subst (λ n. length c.args.book.now + n < 2 ^ 31) count c.requires.room in
+    let small = first_smaller c.args.node.now c.in-Combined.operator c.in-Combined.first c.in-Combined.second c.get.result.now c.in-Combined.is c.get.ensures in
+    let d : size_of (shape_of c.args.node.now) ≡ t = c.decreases in
+    (subst (λ n. size_of (shape_of c.get.result.now) < n) d small, omega arith)
+
+pub node_tree-requires-in-Combined : goal.node_tree-requires-in-Combined
+node_tree-requires-in-Combined t c =
+    let count = ap plane_count (ap solid_of c.in-Combined.is ∙ ap shape_solid (shape-Combined c.in-Combined.operator c.in-Combined.first c.in-Combined.second)) in
+    let first : plane_count (solid_of c.get.result.now) ≡ plane_count (solid_of c.in-Combined.first) = ap (λ n. plane_count (solid_of n)) c.get.ensures in
+    let second : plane_count (solid_of c.get-in-Combined.result.now) ≡ plane_count (solid_of c.in-Combined.second) = ap (λ n. plane_count (solid_of n)) c.get-in-Combined.ensures in
+    let r = subst (λ n. length c.args.book.now + n < 2 ^ 31) count c.requires.room in
+    let m = c.node_tree.ensures.grown.most in
+    let small = second_smaller c.args.node.now c.in-Combined.operator c.in-Combined.first c.in-Combined.second c.get-in-Combined.result.now c.in-Combined.is c.get-in-Combined.ensures in
+    let d : size_of (shape_of c.args.node.now) ≡ t = c.decreases in
+    (subst (λ n. size_of (shape_of c.get-in-Combined.result.now) < n) d small, omega arith)
 
 pub returns-in_err-tree-in-Union-clause-grown : goal.returns-in_err-tree-in-Union-clause-grown
 returns-in_err-tree-in-Union-clause-grown t c =

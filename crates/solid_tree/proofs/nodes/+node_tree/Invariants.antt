@@ -3,6 +3,8 @@ use Rattle.tree_pool.specs.Pools.{IsLive, KeepsTrees, AreTrees}
 use Rattle.triangle_trees.specs.Forms.{IsGrown}
 use Rattle.solid_tree.specs.Unions.{HaveTrees}
 use Rattle.solid_tree.proofs.UnionLaws.{insides}
+use Rattle.grid_solid.specs.Views.{shape_of}
+use Rattle.solid_tree.proofs.Shrinks.{size_of}
 use Rattle.solid_tree.proofs.Rounds.{planes_in, count_in}
 use Rattle.solid_tree.proofs.nodes.+node_tree.Given as goal
 
@@ -15,3 +17,6 @@ invariant-loop-part l = record {
   kept : KeepsTrees l.fn.pool l.pool;
   ok : AreTrees l.pool;
 }
+
+abbrev pub decreases-node_tree : goal.decreases-node_tree
+decreases-node_tree l = size_of (shape_of l.node.now)

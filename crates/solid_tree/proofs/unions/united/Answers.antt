@@ -32,4 +32,4 @@ returns-in-Some-clause-united c ks p u =
 pub returns-clause-united : goal.returns-clause-united
 returns-clause-united c ks p u =
     united_empty c.loop-alloc.pool c.args.book.now ks p c.leaf.result c.leaf.ensures.stands
-    (subst (AreUnited c.loop-alloc.pool c.args.book.now ks p) (no_items c.loop-alloc.trees.items (omega arith)) (c.loop-alloc.invariant.united ks p u))
+    (subst (AreUnited c.loop-alloc.pool c.args.book.now ks p) (no_items c.loop-alloc.trees.items (omega (arith, c.in-None.ensures.cases.0))) (c.loop-alloc.invariant.united ks p u))
