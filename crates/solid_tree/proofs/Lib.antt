@@ -1,0 +1,9 @@
+mod Trees
+mod Lists
+mod UnionLaws
+mod Rounds
+mod Shrinks
+mod ElementLaws
+mod Far
+mod Nudges
+mod Tight
