@@ -27,8 +27,7 @@ nothing = Faces 0 identity []
 -- solids united, from the last to the first
 abbrev pub united : List Shape → Shape
 united [] = nothing
-united (s ∷ []) = s
-united (s ∷ t ∷ ss) = Combined Union s (united (t ∷ ss))
+united (s ∷ ss) = Combined Union s (united ss)
 
 -- an item of a representation, by its number
 pub record ShapeItem : Type 0 where
