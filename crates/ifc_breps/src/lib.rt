@@ -4,5 +4,7 @@
 mod bounds;
 mod faces;
 mod shells;
+#[cfg(test)]
+mod tests;
 
 pub use shells::brep_faces;

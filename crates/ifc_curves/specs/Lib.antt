@@ -1,1 +1,1 @@
-pub mod Segmented
+pub mod Segments

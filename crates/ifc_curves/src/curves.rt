@@ -7,7 +7,7 @@ ghost use Rattle.spec_geometry.specs.Points as planes;
 ghost use Rattle.spec_geometry.specs.Curves.{member_point, polyline, pair, point_list, points_by_segments, indexed_curve, curve_points, curve, named_curve};
 ghost use Rattle.ifc_numbers.specs.Measures.{file_of};
 ghost use Rattle.ifc_numbers.specs.Answers.{ReadsAs};
-ghost use Rattle.ifc_curves.specs.Segmented.{segmented};
+ghost use Rattle.ifc_curves.specs.Segments.{segmented};
 
 use crate::points::Points;
 use crate::segments::segments;

@@ -6,6 +6,8 @@ mod counts;
 mod curves;
 mod points;
 mod segments;
+#[cfg(test)]
+mod tests;
 
 pub use counts::{count_loop, count_with};
 pub use curves::{CURVE_KINDS, curve, named_curve};

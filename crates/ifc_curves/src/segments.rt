@@ -2,6 +2,7 @@ ghost use Rattle.std.specs.Prelude.{◌≡◌, ◌≤◌, ◌^◌, ◌∷◌, �
 ghost use Rattle.spec_entity.specs.Reads.{each};
 ghost use Rattle.spec_geometry.specs.Curves.{index_in, index, line_index, first_index, last_index, joined, segment_named, segment, segments_after};
 ghost use Rattle.ifc_numbers.specs.Answers.{ReadsList};
+ghost use Rattle.ifc_curves.specs.Segments.{index_of};
 
 use entity_reader::refusal_of;
 use ifc_numbers::ItemFault;
@@ -15,14 +16,28 @@ use step_text::bytes_at;
 /// 1, for what is counted in units of 10^-12.
 const ONE: i128 = 1_000_000_000_000;
 
+/// The whole number that so many units of 10^-12 are, from 1 to a count.
+fn index_of(at: u64, count: usize, units: i128) -> Result<usize, Refusal>
+    requires { count ≤ 10 ^ 9 }
+    ensures { result ≡ index_of at count units }
+{
+    if units < ONE {
+        return Err(Refusal::BadAttribute { at, position: 2 });
+    }
+    if units > count as i128 * ONE {
+        return Err(Refusal::BadAttribute { at, position: 2 });
+    }
+    Ok((units.unsigned_abs() / 1_000_000_000_000) as usize)
+}
+
 /// The whole number that a decimal text is, from 1 to a count.
 fn index_in(at: u64, count: usize, text: &[u8]) -> Result<usize, Refusal>
     requires { count ≤ 10 ^ 9 }
     ensures { result ≡ index_in at count text.now }
 {
     match Decimal::read(text) {
-        Ok(units) if ONE <= units && units <= count as i128 * ONE => Ok((units.unsigned_abs() / 1_000_000_000_000) as usize),
-        _ => Err(Refusal::BadAttribute { at, position: 2 }),
+        Ok(units) => index_of(at, count, units),
+        Err(_) => Err(Refusal::BadAttribute { at, position: 2 }),
     }
 }
 
@@ -116,10 +131,10 @@ fn first_index(indices: &[usize]) -> usize
 fn last_index(indices: &[usize]) -> usize
     ensures { result ≡ last_index indices.now }
 {
-    match indices {
-        [.., last] => *last,
-        [] => 0,
+    if indices.is_empty() {
+        return 0;
     }
+    indices[indices.len() - 1]
 }
 
 /// The indices but the first.

@@ -5,5 +5,7 @@ mod curved;
 mod loops;
 mod measured;
 mod profiles;
+#[cfg(test)]
+mod tests;
 
 pub use profiles::named_profile;
