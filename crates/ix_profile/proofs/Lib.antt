@@ -1,0 +1,5 @@
+pub mod Threes
+pub mod Replaced
+pub mod Small
+pub mod Outlines
+pub mod EndLaws

@@ -5,6 +5,7 @@ mod curve;
 mod loops;
 mod place;
 mod shapes;
+mod span;
 
 pub use loops::{Loop, Loops};
 pub use shapes::{hollow, i_shape, rectangle};
