@@ -1,5 +1,5 @@
 -- Axes in space and in the plane, and transformation operators (ISO 10303-42 in IFC4).
-use Rattle.std.specs.Prelude.{ℕ, ℤ, pos, List, [], ◌∷◌, Option, Some, None, Ok, if◌then◌else◌}
+use Rattle.std.specs.Prelude.{ℕ, ℤ, List, [], ◌∷◌, Option, Some, None, Ok, if◌then◌else◌}
 use Rattle.spec_space.specs.declared.Vector.{Vector}
 use Rattle.spec_table.specs.Sections.{DataSection}
 use Rattle.spec_table.specs.Attributes.{attr_ref}

@@ -1,6 +1,6 @@
 -- Curves of straight lines (IFC4): their points in the plane, in nanometres. That an open curve is closed by a straight edge is a
 -- rule of this project.
-use Rattle.std.specs.Prelude.{ℕ, ℤ, pos, ◌-◌, ◌*◌, ◌^◌, ◌/◌, ◌&&◌, nat_le, nat_eq, int_le, unsigned_abs, List, [], ◌∷◌, ◌++◌, map, length, drop, slice_index_or, Option, Some, None, Result, Ok, Err, codes, if◌then◌else◌}
+use Rattle.std.specs.Prelude.{ℕ, pos, ◌-◌, ◌*◌, ◌^◌, ◌/◌, ◌&&◌, nat_le, nat_eq, int_le, unsigned_abs, List, [], ◌∷◌, ◌++◌, map, length, drop, slice_index_or, Option, Some, None, Ok, Err, codes, if◌then◌else◌}
 use Rattle.spec_num.specs.Decimals.{decimal_units}
 use Rattle.spec_space.specs.declared.Vector.{Vector}
 use Rattle.spec_step.specs.Spans.{bytes_at}

@@ -1,7 +1,6 @@
 -- Points and directions (ISO 10303-42 in IFC4).
 use Rattle.std.specs.Prelude.{ℕ, ℤ, pos, List, [], ◌∷◌, Option, Ok}
 use Rattle.spec_space.specs.declared.Vector.{Vector}
-use Rattle.spec_step.specs.declared.tree.Param.{Param}
 use Rattle.spec_table.specs.Sections.{DataSection}
 use Rattle.spec_table.specs.Attributes.{attr_ref}
 use Rattle.ifc_kinds.specs.declared.kind.Kind.TheVariants as kind

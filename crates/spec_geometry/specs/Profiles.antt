@@ -1,5 +1,5 @@
 -- Profiles (IFC4): their loops in the plane, in nanometres, and the count of triangles that their sweep adds.
-use Rattle.std.specs.Prelude.{ℕ, ℤ, pos, ◌+◌, ◌*◌, ◌*ℤ◌, ◌&&◌, nat_le, int_lt, List, [], ◌∷◌, ◌++◌, map, length, Option, Some, None, Ok, if◌then◌else◌}
+use Rattle.std.specs.Prelude.{ℕ, ℤ, pos, ◌+◌, ◌*◌, ◌*ℤ◌, nat_le, int_lt, List, [], ◌∷◌, length, Option, Some, None, Ok, if◌then◌else◌}
 use Rattle.spec_space.specs.declared.Vector.{Vector}
 use Rattle.spec_step.specs.declared.tree.Param.{Param}
 use Rattle.ifc_kinds.specs.declared.kind.Kind.{Kind}

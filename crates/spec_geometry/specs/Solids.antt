@@ -1,6 +1,6 @@
 -- The solid of an instance (IFC4) under a map, and the count of triangles and half-spaces that it adds. The map of a mapped item,
 -- and the reach of a bounded half-space, are rules of this project.
-use Rattle.std.specs.Prelude.{ℕ, ℤ, pos, neg_ℤ, zero, suc, ◌*◌, ◌*ℤ◌, ◌^◌, List, [], ◌∷◌, map, Option, Some, None, Ok, Err, if◌then◌else◌}
+use Rattle.std.specs.Prelude.{ℕ, ℤ, pos, neg_ℤ, zero, suc, ◌*◌, ◌*ℤ◌, ◌^◌, List, [], ◌∷◌, map, Ok, Err, if◌then◌else◌}
 use Rattle.spec_space.specs.declared.Vector.{Vector}
 use Rattle.spec_solid.specs.declared.BoolOp.TheVariants.{Intersection}
 use Rattle.spec_step.specs.declared.tree.Param.{Param}

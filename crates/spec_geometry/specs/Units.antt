@@ -1,6 +1,5 @@
 -- The unit of length of a file (IFC4): the project's units, and in them the first unit of length.
-use Rattle.std.specs.Prelude.{ℕ, ℤ, Bool, List, [], ◌∷◌, Option, Some, None, Result, Ok, Err, codes, if◌then◌else◌}
-use Rattle.std.specs.List.{find}
+use Rattle.std.specs.Prelude.{ℕ, ℤ, List, [], ◌∷◌, Option, Some, None, Result, Ok, Err, codes, if◌then◌else◌}
 use Rattle.spec_table.specs.Sections.{DataSection}
 use Rattle.spec_table.specs.Attributes.{attr_enum}
 use Rattle.ifc_kinds.specs.declared.kind.Kind.TheVariants as kind
@@ -13,7 +12,7 @@ use Rattle.spec_refusal.specs.declared.UnitFault.TheVariants.{NoProject, NoLengt
 use Rattle.spec_refusal.specs.Reads.{Read, next, only_if}
 use Rattle.spec_entity.specs.Reads.{as_read, wanted_value, wanted_number, has_kind, named_instance}
 use Rattle.spec_entity.specs.Units.{first_project, unit_of}
-use Rattle.spec_geometry.specs.Files.{is_word, if_some, found, wanted_instance}
+use Rattle.spec_geometry.specs.Files.{is_word, if_some, found}
 
 -- IfcSIPrefix, as far as it is read
 abbrev pub prefix_named : List ℕ → Option Prefix
