@@ -1,6 +1,6 @@
-ghost use Rattle.std.specs.Prelude.{◌≡◌, ◌≤◌, All, IfOk, IfSome};
+ghost use Rattle.std.specs.Prelude.{◌≡◌, ◌≤◌, All, Some, Ok, IfOk, IfSome};
 ghost use Rattle.spec_table.specs.Sections.{IsSimple};
-ghost use Rattle.spec_shape.specs.Shapes.{element_count};
+ghost use Rattle.spec_shape.specs.Shapes.{ElementShape, element_count};
 ghost use Rattle.spec_geometry.specs.Elements.{items, opening_items, openings, element_body};
 ghost use Rattle.solid_expr.specs.Views.{element_of};
 ghost use Rattle.ifc_numbers.specs.Measures.{file_of};
@@ -95,14 +95,8 @@ fn opening_solids(
     Ok((found, reached))
 }
 
-/// The solids of an element and of its openings, in the element's frame, and where it stands; `None` exactly where it has no
-/// representation that is read. They have at most 4096 triangles and half-spaces. `openings` is that of the file.
-///
-/// # Errors
-///
-/// The first refusal in the order of reading (the representation, the chain of placements and its frame, the items, then the
-/// openings in file order, each with its representation, its chain and its items), or `NoMemory`.
-pub fn element_body(
+/// The solids of an element and of its openings.
+fn read_body(
     alloc: Global,
     table: &Table<'_>,
     g: &GeomIn,
@@ -131,4 +125,28 @@ pub fn element_body(
         }
         None => Ok(None),
     }
+}
+
+/// The solids of an element and of its openings, in the element's frame, and where it stands; `None` exactly where it has no
+/// representation that is read. They have at most 4096 triangles and half-spaces. `openings` is that of the file.
+///
+/// # Errors
+///
+/// The first refusal in the order of reading (the representation, the chain of placements and its frame, the items, then the
+/// openings in file order, each with its representation, its chain and its items), or `NoMemory`.
+pub fn element_body(
+    alloc: Global,
+    table: &Table<'_>,
+    g: &GeomIn,
+    openings: &Openings,
+    number: u64,
+) -> Result<Option<ElementSolid>, ItemFault>
+    requires simple { IsSimple table.now number }
+    requires openings { IsIndexOf openings.now table.now }
+    ensures value { ReadsBody result (element_body (file_of table.now g.now) number) }
+    ensures law { (element : ElementShape) → element_body (file_of table.now g.now) number ≡ Ok (Some element) → element_count element ≤ 4096 }
+    ensures few { IfOk result (λ body. IfSome body (λ element. element_count (element_of element) ≤ 4096)) }
+    ensures number { IfOk result (λ body. IfSome body (λ element. element.number ≡ number)) }
+{
+    read_body(alloc, table, g, openings, number)
 }
