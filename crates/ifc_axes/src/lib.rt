@@ -1,14 +1,14 @@
 //! Axes, maps and placements of IFC4: where solids stand.
 #![tactic(auto)]
 
-mod axes;
+mod frames;
 mod maps;
 mod placements;
 mod plane;
 #[cfg(test)]
 mod tests;
 
-pub use axes::{axes, if_axes, named_axes};
+pub use frames::{axes, if_axes, named_axes};
 pub use ifc_numbers::{
     GeomIn, ItemFault, boolean, direction, if_direction, if_plane_direction, length, length_unit,
     named_point, number_if_set, plane_direction, plane_point, point, positive, reference_if_set,

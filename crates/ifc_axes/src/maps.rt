@@ -5,7 +5,7 @@ ghost use Rattle.spec_place.specs.Maps.{scales};
 ghost use Rattle.spec_geometry.specs.Axes.{within, map_within, map_within_if, further_scale, operator};
 ghost use Rattle.ifc_numbers.specs.Measures.{file_of};
 
-use crate::axes::{coordinates, if_axes, named_axes};
+use crate::frames::{coordinates, if_axes, named_axes};
 use entity_reader::has_kind;
 use ifc_kinds::Kind;
 use ifc_numbers::{GeomIn, if_direction, named_point, number_if_set, refusal_at};

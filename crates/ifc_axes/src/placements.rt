@@ -9,7 +9,7 @@ ghost use Rattle.ifc_numbers.specs.Measures.{file_of};
 ghost use Rattle.ifc_numbers.specs.Answers.{ReadsList};
 ghost use Rattle.ifc_axes.specs.Turned.{ReadsTurned};
 
-use crate::axes::named_axes;
+use crate::frames::named_axes;
 use entity_reader::instance_of_kinds;
 use ifc_kinds::Kind;
 use ifc_numbers::{GeomIn, ItemFault, reference_if_set, refusal_at};

@@ -1,12 +1,13 @@
 ghost use Rattle.std.specs.Prelude.{◌≡◌, ◌≤◌, ◌^◌, unsigned_abs, IfOk};
 ghost use Rattle.spec_num.specs.Decimals.{most_units};
 ghost use Rattle.spec_table.specs.Sections.{IsSimple};
-ghost use Rattle.spec_table.specs.Attributes.{attr_ref};
+ghost use Rattle.spec_table.specs.Attributes.{attr_ref, attr_enum};
 ghost use Rattle.spec_place.specs.Lengths.{length_of};
 ghost use Rattle.spec_refusal.specs.declared.Refusal.TheVariants.{NumberTooLarge};
 ghost use Rattle.spec_expression.specs.Sizes.{IsExtent};
-ghost use Rattle.spec_entity.specs.Reads.{as_read, wanted_number};
-ghost use Rattle.spec_geometry.specs.Files.{found, length, positive, is_zero_or_none, zero, number_if_set, boolean_named, boolean};
+ghost use Rattle.spec_entity.specs.Reads.{as_read, wanted_value, wanted_number};
+ghost use Rattle.spec_geometry.specs.Files.{found, length, positive, zero, number_if_set, boolean};
+ghost use Rattle.entity_reader.specs.Lent.{plain_read};
 ghost use Rattle.ifc_numbers.specs.Measures.{file_of};
 
 use crate::measures::GeomIn;
@@ -106,18 +107,37 @@ pub fn wanted_number(table: &Table<'_>, at: u64, position: usize) -> Result<i128
     }
 }
 
-/// A wanted boolean: the enumeration T or F.
+/// A wanted enumeration: the letters between its points.
+pub fn wanted_enumeration<'t>(
+    table: &'t Table<'_>,
+    at: u64,
+    position: usize,
+) -> Result<&'t [u8], Refusal>
+    requires simple { IsSimple table.now at }
+    requires counted { 1 ≤ position }
+    ensures { plain_read result ≡ wanted_value at position (attr_enum table.now at position) }
+{
+    match table.attr_enum(at, position) {
+        Ok(Some(text)) => Ok(text),
+        Ok(None) => Err(Refusal::BadAttribute { at, position }),
+        Err(fault) => Err(refusal_of(fault)),
+    }
+}
+
+/// A wanted boolean: the enumeration T or F, in letters of any case.
 pub fn boolean(table: &Table<'_>, at: u64, position: usize) -> Result<bool, Refusal>
     requires simple { IsSimple table.now at }
     requires counted { 1 ≤ position }
     ensures { result ≡ boolean table.now at position }
 {
-    match table.attr_enum(at, position) {
-        Ok(Some(text)) if text.eq_ignore_ascii_case(b"T") => Ok(true),
-        Ok(Some(text)) if text.eq_ignore_ascii_case(b"F") => Ok(false),
-        Ok(_) => Err(Refusal::BadAttribute { at, position }),
-        Err(fault) => Err(refusal_of(fault)),
+    let text = wanted_enumeration(table, at, position)?;
+    if text.eq_ignore_ascii_case(b"T") {
+        return Ok(true);
     }
+    if text.eq_ignore_ascii_case(b"F") {
+        return Ok(false);
+    }
+    Err(Refusal::BadAttribute { at, position })
 }
 
 /// The instance that an attribute names, if it is set.

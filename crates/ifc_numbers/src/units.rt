@@ -2,7 +2,7 @@ ghost use Rattle.std.specs.Prelude.{◌≡◌};
 ghost use Rattle.spec_table.specs.Sections.{IsSimple};
 ghost use Rattle.spec_geometry.specs.Units.{prefix_named, prefix, si_unit, conversion_based_unit, unit, project_unit, length_unit};
 
-use crate::numbers::wanted_number;
+use crate::numbers::{wanted_enumeration, wanted_number};
 use entity_reader::{first_project, has_kind, named_instance, refusal_of, unit_of};
 use ifc_kinds::Kind;
 use ix_place::{LengthUnit, Prefix};
@@ -13,19 +13,16 @@ use step_table::Table;
 fn prefix_named(word: &[u8]) -> Option<Prefix>
     ensures { result ≡ prefix_named word.now }
 {
-    const PREFIXES: [(&str, Prefix); 7] = [
-        ("KILO", Prefix::Kilo),
-        ("HECTO", Prefix::Hecto),
-        ("DECA", Prefix::Deca),
-        ("DECI", Prefix::Deci),
-        ("CENTI", Prefix::Centi),
-        ("MILLI", Prefix::Milli),
-        ("MICRO", Prefix::Micro),
-    ];
-    PREFIXES
-        .iter()
-        .find(|row| word.eq_ignore_ascii_case(row.0.as_bytes()))
-        .map(|row| row.1)
+    match word {
+        _ if word.eq_ignore_ascii_case(b"KILO") => Some(Prefix::Kilo),
+        _ if word.eq_ignore_ascii_case(b"HECTO") => Some(Prefix::Hecto),
+        _ if word.eq_ignore_ascii_case(b"DECA") => Some(Prefix::Deca),
+        _ if word.eq_ignore_ascii_case(b"DECI") => Some(Prefix::Deci),
+        _ if word.eq_ignore_ascii_case(b"CENTI") => Some(Prefix::Centi),
+        _ if word.eq_ignore_ascii_case(b"MILLI") => Some(Prefix::Milli),
+        _ if word.eq_ignore_ascii_case(b"MICRO") => Some(Prefix::Micro),
+        _ => None,
+    }
 }
 
 /// The prefix of a unit (IfcSIUnit), if it is set.
@@ -43,33 +40,18 @@ fn prefix(table: &Table<'_>, at: u64) -> Result<Option<Prefix>, Refusal>
     }
 }
 
-/// That an attribute is set and is an enumeration.
-fn enumeration(table: &Table<'_>, at: u64, position: usize) -> Result<(), Refusal> {
-    match table.attr_enum(at, position) {
-        Ok(Some(_)) => Ok(()),
-        Ok(None) => Err(Refusal::BadAttribute { at, position }),
-        Err(fault) => Err(refusal_of(fault)),
-    }
-}
-
-/// That the name of a unit (IfcSIUnit) is METRE.
-fn metre(table: &Table<'_>, at: u64) -> Result<(), Refusal> {
-    match table.attr_enum(at, 4) {
-        Ok(Some(word)) if word.eq_ignore_ascii_case(b"METRE") => Ok(()),
-        Ok(_) => Err(Refusal::BadAttribute { at, position: 4 }),
-        Err(fault) => Err(refusal_of(fault)),
-    }
-}
-
 /// The metre with a prefix (IfcSIUnit).
 fn si_unit(table: &Table<'_>, at: u64) -> Result<LengthUnit, Refusal>
     requires { IsSimple table.now at }
     ensures { result ≡ si_unit table.now at }
 {
-    enumeration(table, at, 2)?;
+    wanted_enumeration(table, at, 2)?;
     let prefix = prefix(table, at)?;
-    metre(table, at)?;
-    Ok(LengthUnit::of_metre(prefix))
+    let name = wanted_enumeration(table, at, 4)?;
+    if name.eq_ignore_ascii_case(b"METRE") {
+        return Ok(LengthUnit::of_metre(prefix));
+    }
+    Err(Refusal::BadAttribute { at, position: 4 })
 }
 
 /// A factor over the metre with a prefix (IfcConversionBasedUnit, IfcMeasureWithUnit).
