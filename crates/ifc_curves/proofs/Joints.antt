@@ -1,5 +1,5 @@
 -- How segments join.
-use Rattle.std.proofs.Common.{◌≡◌, ℕ, suc, ◌-◌, nat_eq, Bool, true, false, List, [], ◌∷◌, ◌++◌, length, drop, slice_index, Option, Some, None, is_none, Ok, refl, sym, subst, ◌∙◌, ap, arith}
+use Rattle.std.proofs.Common.{◌≡◌, ℕ, suc, ◌-◌, ◌==◌, nat_eq, Bool, true, false, List, [], ◌∷◌, ◌++◌, length, drop, slice_index_or, Option, Some, None, is_none, Ok, refl, sym, subst, ◌∙◌, ap, arith}
 use Rattle.spec_space.specs.declared.Vector.{Vector}
 use Rattle.spec_step.specs.declared.tree.Param.{Param}
 use Rattle.spec_table.specs.Sections.{DataSection}
@@ -8,19 +8,15 @@ use Rattle.spec_refusal.specs.Reads.{Read, only_if}
 use Rattle.spec_geometry.specs.Curves.{first_index, last_index, joined, points_by_segments}
 use Rattle.ifc_curves.specs.Segments.{segmented}
 
-at_end : (x : ℕ) (xs : List ℕ) → slice_index (x ∷ xs) (length xs) ≡ last_index (x ∷ xs)
+at_end : (x : ℕ) (xs : List ℕ) → slice_index_or (x ∷ xs) (length xs) 0 ≡ last_index (x ∷ xs)
 at_end x [] = refl
 at_end x (y ∷ ys) = at_end y ys
 
-pub last_is : (xs : List ℕ) → (length xs ≡ 0 → ⊥) → slice_index xs (length xs - 1) ≡ last_index xs
-last_is [] some = absurd (some refl)
-last_is (x ∷ xs) some =
-    let e : length xs ≡ length (x ∷ xs) - 1 = omega arith in
-    subst (λ k. slice_index (x ∷ xs) k ≡ last_index (x ∷ xs)) e (at_end x xs)
-
-pub none_last : (xs : List ℕ) → length xs ≡ 0 → 0 ≡ last_index xs
-none_last [] e = refl
-none_last (x ∷ xs) e = absurd (omega (arith, e))
+pub last_found : (xs : List ℕ) → (length xs == 0) ≡ false → slice_index_or xs (length xs - 1) 0 ≡ last_index xs
+last_found [] e = absurd (cc)
+last_found (x ∷ xs) e =
+    let k : length xs ≡ length (x ∷ xs) - 1 = omega arith in
+    subst (λ i. slice_index_or (x ∷ xs) i 0 ≡ last_index (x ∷ xs)) k (at_end x xs)
 
 pub joins_none : (n : ℕ) (before is : List ℕ) → length before ≡ 0 → joined n before is ≡ Ok is
 joins_none n [] is e = refl

@@ -4,6 +4,7 @@
 
 mod counts;
 mod curves;
+mod outlines;
 mod points;
 mod segments;
 #[cfg(test)]
@@ -11,4 +12,5 @@ mod tests;
 
 pub use counts::{count_loop, count_with};
 pub use curves::{CURVE_KINDS, curve, named_curve};
+pub use outlines::{one_loop, with_loop};
 pub use points::Points;

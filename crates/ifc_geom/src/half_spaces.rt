@@ -1,6 +1,7 @@
-ghost use Rattle.std.specs.Prelude.{◌≡◌, ◌≤◌, ◌^◌, ◌*◌, ◌∷◌, [], length, unsigned_abs, All, IfOk};
+ghost use Rattle.std.specs.Prelude.{◌≡◌, ◌≤◌, ◌^◌, ◌-◌, ◌*ℤ◌, pos, neg_ℤ, ◌∷◌, [], length, unsigned_abs, All, IfOk};
 ghost use Rattle.spec_place.specs.Vectors.{IsWithin};
 ghost use Rattle.spec_table.specs.Sections.{IsSimple};
+ghost use Rattle.spec_shape.specs.Shapes.{upwards, lifted};
 ghost use Rattle.spec_geometry.specs.Solids.{half_space, reach, column, bounded_half_space};
 ghost use Rattle.ix_profile.specs.Outlines.{IsOutline};
 ghost use Rattle.solid_expr.specs.Views.{shape_of};
@@ -9,7 +10,7 @@ ghost use Rattle.ifc_geom.specs.Views.{plain_solid, ReadsSolid};
 
 use entity_reader::named_instance;
 use ifc_axes::{GeomIn, ItemFault, boolean, map_within, named_axes, within};
-use ifc_curves::{count_loop, count_with, named_curve};
+use ifc_curves::{count_loop, count_with, named_curve, one_loop};
 use ifc_kinds::Kind;
 use ix_place::Map;
 use ix_profile::{Loop, Loops};
@@ -55,19 +56,41 @@ fn reach(grid: u32) -> i128
     ensures value { result ≡ reach grid }
     ensures within { unsigned_abs result ≤ 2 ^ 44 }
 {
-    524_288 * (1000 * grid as i128)
+    let nanometres = 524_288 * (1000 * grid as u64);
+    nanometres as i128
 }
 
-/// One loop.
-fn one_loop(alloc: Global, boundary: Loop) -> Result<Loops, AllocError>
+fn opposite(n: i128) -> i128
+    requires { unsigned_abs n ≤ 2 ^ 44 }
+    ensures value { result ≡ neg_ℤ n }
+    ensures within { unsigned_abs result ≤ 2 ^ 44 }
+{
+    -n
+}
+
+/// The sweep along z over twice a height.
+fn twice_upwards(height: i128) -> Vector
+    requires { unsigned_abs height ≤ 2 ^ 44 }
+    ensures value { result ≡ upwards (pos 2 *ℤ height) }
+    ensures within { IsWithin (2 ^ 61 - 1) result }
+{
+    Vector {
+        x: 0,
+        y: 0,
+        z: 2 * height,
+    }
+}
+
+/// A boundary that is lowered along z.
+fn lowered(alloc: Global, boundary: Loop, depth: i128) -> Result<Loops, AllocError>
     requires long { 3 ≤ length boundary }
     requires within { All (IsWithin (10 ^ 16)) boundary }
-    ensures value { IfOk result (λ loops. loops ≡ boundary ∷ []) }
-    ensures outline { IfOk result (IsOutline (10 ^ 16)) }
+    requires depth { unsigned_abs depth ≤ 2 ^ 44 }
+    ensures value { IfOk result (λ loops. loops ≡ lifted (neg_ℤ depth) (boundary ∷ [])) }
+    ensures outline { IfOk result (IsOutline (2 ^ 61 - 1)) }
 {
-    let mut loops = Loops::new(alloc);
-    loops.push(boundary)?;
-    Ok(loops)
+    let loops = one_loop(alloc, boundary)?;
+    Ok(lifted(loops, opposite(depth)))
 }
 
 /// The sweep of a boundary along z, as far as a bounded half-space reaches both ways.
@@ -84,13 +107,8 @@ fn column(
     ensures { IfOk result (λ solid. shape_of solid ≡ column at grid map.now boundary) }
 {
     let reach = reach(grid);
-    let loops = lifted(one_loop(alloc, boundary)?, -reach);
-    let sweep = Vector {
-        x: 0,
-        y: 0,
-        z: 2 * reach,
-    };
-    let faces = prism_faces(alloc, at, &loops, &sweep)?;
+    let loops = lowered(alloc, boundary, reach)?;
+    let faces = prism_faces(alloc, at, &loops, &twice_upwards(reach))?;
     Ok(Solid::Faces {
         at,
         map: *map,

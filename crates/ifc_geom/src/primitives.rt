@@ -1,8 +1,11 @@
-ghost use Rattle.std.specs.Prelude.{◌≡◌, ◌≤◌, ◌^◌, ◌*◌, IfOk};
-ghost use Rattle.spec_place.specs.Vectors.{IsWithin};
+ghost use Rattle.std.specs.Prelude.{◌≡◌, ◌≤◌, ◌^◌, ◌*◌, ◌*ℤ◌, unsigned_abs, IfOk};
+ghost use Rattle.spec_num.specs.Rounding.{round_of};
+ghost use Rattle.spec_place.specs.Vectors.{one, IsWithin};
 ghost use Rattle.spec_table.specs.Sections.{IsSimple};
 ghost use Rattle.spec_geometry.specs.Solids.{sweep, extruded_area_solid, sizes, block, brep};
-ghost use Rattle.ix_profile.specs.Outlines.{IsExtent};
+ghost use Rattle.spec_shape.specs.Shapes.{prism_faces};
+ghost use Rattle.spec_expression.specs.Sizes.{IsExtent};
+ghost use Rattle.ix_profile.specs.Outlines.{IsOutline};
 ghost use Rattle.ifc_numbers.specs.Measures.{file_of};
 ghost use Rattle.ifc_geom.specs.Views.{ReadsSolid};
 
@@ -14,26 +17,52 @@ use ifc_kinds::Kind;
 use ifc_profiles::named_profile;
 use ix_num::round_div;
 use ix_place::{Dir, Map};
-use solid_expr::{Solid, block_faces, prism_faces};
+use ix_profile::Loops;
+use solid_expr::{Face, Solid, block_faces, prism_faces};
 use spec_refusal::Refusal;
 use spec_space::Vector;
-use std::alloc::Global;
+use std::alloc::{AllocError, Global};
 use step_table::Table;
 
 /// 1, for what is counted in units of 10^-9.
 const ONE: i128 = 1_000_000_000;
 
+/// A part of a direction times a depth in nanometres.
+fn part_over(depth: i128, part: i128) -> i128
+    requires depth { unsigned_abs depth ≤ 10 ^ 16 }
+    requires part { unsigned_abs part ≤ 10 ^ 9 }
+    ensures value { result ≡ round_of (depth *ℤ part) one }
+    ensures within { unsigned_abs result ≤ 10 ^ 16 }
+{
+    round_div(depth * part, ONE)
+}
+
 /// A direction times a depth in nanometres.
 fn sweep(along: &Dir, depth: i128) -> Vector
-    requires { IsExtent depth }
+    requires { unsigned_abs depth ≤ 10 ^ 16 }
     ensures value { result ≡ sweep along.now depth }
-    ensures within { IsWithin (2 * 10 ^ 16) result }
+    ensures within { IsWithin (10 ^ 16) result }
 {
     Vector {
-        x: round_div(depth * along.v.x, ONE),
-        y: round_div(depth * along.v.y, ONE),
-        z: round_div(depth * along.v.z, ONE),
+        x: part_over(depth, along.v.x),
+        y: part_over(depth, along.v.y),
+        z: part_over(depth, along.v.z),
     }
+}
+
+/// The faces of a profile that is swept along a direction.
+fn swept_faces(
+    alloc: Global,
+    at: u64,
+    loops: &Loops,
+    along: &Dir,
+    depth: i128,
+) -> Result<Vec<Face>, AllocError>
+    requires outline { IsOutline (3 * 10 ^ 16) loops.now }
+    requires depth { IsExtent depth }
+    ensures { IfOk result (λ faces. faces.items ≡ prism_faces at loops.now (sweep along.now depth)) }
+{
+    prism_faces(alloc, at, loops, &sweep(along, depth))
 }
 
 /// The sweep of a profile (IfcExtrudedAreaSolid) under a map, and the count with its triangles.
@@ -55,7 +84,7 @@ pub fn extruded_area_solid(
     let direction_at = named_instance(table, &[Kind::Direction], at, 3)?;
     let along = direction(table, direction_at)?;
     let depth = positive(table, g, at, 4)?;
-    let faces = prism_faces(alloc, at, &swept, &sweep(&along, depth))?;
+    let faces = swept_faces(alloc, at, &swept, &along, depth)?;
     Ok((
         Solid::Faces {
             at,

@@ -7,10 +7,9 @@ ghost use Rattle.ix_profile.specs.Outlines.{IsOutline};
 ghost use Rattle.ifc_numbers.specs.Measures.{file_of};
 ghost use Rattle.ifc_numbers.specs.Answers.{ReadsAs};
 
-use crate::loops::{one_loop, with_loop};
 use entity_reader::{instance_of_kinds, member_instance, members};
 use ifc_axes::{GeomIn, ItemFault};
-use ifc_curves::{CURVE_KINDS, count_loop, curve, named_curve};
+use ifc_curves::{CURVE_KINDS, count_loop, curve, named_curve, one_loop, with_loop};
 use ix_profile::{Loop, Loops};
 use spec_step::Param;
 use std::alloc::Global;

@@ -23,12 +23,12 @@ replaced_step f P Q old now i d v l e q h =
     let here = drop_more now i d l in
     record {
       same =
-        ap (λ xs. xs ++ map f (drop (i + 1) (set now i v))) more
-        ∙ ap (λ xs. (take i now ++ v ∷ []) ++ map f xs) after
-        ∙ append_assoc (take i now) (v ∷ []) (map f (drop (i + 1) now))
-        ∙ ap (λ w. take i now ++ (w ∷ map f (drop (i + 1) now))) e
-        ∙ ap (λ xs. take i now ++ map f xs) (sym here)
-        ∙ h.same;
+          ap (λ xs. xs ++ map f (drop (i + 1) (set now i v))) more
+          ∙ ap (λ xs. (take i now ++ v ∷ []) ++ map f xs) after
+          ∙ append_assoc (take i now) (v ∷ []) (map f (drop (i + 1) now))
+          ∙ ap (λ w. take i now ++ (w ∷ map f (drop (i + 1) now))) e
+          ∙ ap (λ xs. take i now ++ map f xs) (sym here)
+          ∙ h.same;
       done = subst (λ xs. All Q xs) (sym more) (All-push Q (take i now) v h.done q);
       left = subst (λ xs. All P xs) (sym after) (All-tail P (get_or now i d) (drop (i + 1) now) (subst (λ xs. All P xs) here h.left));
     }

@@ -84,10 +84,10 @@ no_three : (p q : Vector) (ps : List Vector) → All (IsOneOf p q) ps → has_th
 no_three p q ps h =
     list_any_none (λ a. list_any (λ b. list_any (λ c. are_different a b c) ps) ps) ps
     (All-weaker (IsOneOf p q) (λ a. list_any (λ b. list_any (λ c. are_different a b c) ps) ps ≡ false) (λ a ha.
-        list_any_none (λ b. list_any (λ c. are_different a b c) ps) ps
-        (All-weaker (IsOneOf p q) (λ b. list_any (λ c. are_different a b c) ps ≡ false) (λ b hb.
-            list_any_none (λ c. are_different a b c) ps
-            (All-weaker (IsOneOf p q) (λ c. are_different a b c ≡ false) (λ c hc. not_different p q a b c ha hb hc) ps h)) ps h)) ps h)
+    list_any_none (λ b. list_any (λ c. are_different a b c) ps) ps
+    (All-weaker (IsOneOf p q) (λ b. list_any (λ c. are_different a b c) ps ≡ false) (λ b hb.
+    list_any_none (λ c. are_different a b c) ps
+    (All-weaker (IsOneOf p q) (λ c. are_different a b c ≡ false) (λ c hc. not_different p q a b c ha hb hc) ps h)) ps h)) ps h)
 
 -- no other point is left
 none_step : (a b : Bool) (r : Vector) (rest : Option Vector) → (if not a && not b then Some r else rest) ≡ None → ((a ≡ true) ⊎ (b ≡ true)) × (rest ≡ None)
@@ -148,8 +148,8 @@ has_three_true p q r ps rest is e d =
     let second = other_found p p ps q e in
     let third = other_found p q ps r d in
     let all_but_first : list_any (λ b. list_any (λ c. are_different p b c) ps) ps ≡ true =
-      second.passes (λ b. list_any (λ c. are_different p b c) ps)
-      (third.passes (λ c. are_different p q c) (different (is_same p q) (is_same p r) (is_same q r) second.first third.first third.second)) in
+    second.passes (λ b. list_any (λ c. are_different p b c) ps)
+    (third.passes (λ c. are_different p q c) (different (is_same p q) (is_same p r) (is_same q r) second.first third.first third.second)) in
     head_passes (λ a. list_any (λ b. list_any (λ c. are_different a b c) ps) ps) p ps rest is all_but_first
   where
     head_passes : (f : Vector → Bool) (p : Vector) (ps rest : List Vector) → ps ≡ p ∷ rest → f p ≡ true → list_any f ps ≡ true

@@ -6,6 +6,8 @@ mod loops;
 mod place;
 mod shapes;
 mod span;
+#[cfg(test)]
+mod tests;
 
 pub use loops::{Loop, Loops};
 pub use shapes::{hollow, i_shape, rectangle};

@@ -151,7 +151,11 @@ pub fn hollow(alloc: Global, x: i128, y: i128, wall: i128) -> Result<Loops, Allo
 {
     let (x, y) = (centred(x), centred(y));
     let outer = between(alloc, x, y)?;
-    two_loops(alloc, outer, between(alloc, within(x, wall), within(y, wall))?)
+    two_loops(
+        alloc,
+        outer,
+        between(alloc, within(x, wall), within(y, wall))?,
+    )
 }
 
 /// The loop of an I shape (IfcIShapeProfileDef) by its overall width, its overall depth, and the thicknesses of its web

@@ -29,7 +29,7 @@ mapped_within : (f : Vector → Vector) (m n : ℕ) (loops : List (List Vector))
 mapped_within f m n loops step h =
     All-map (All (IsWithin n)) (map f) loops
     (All-weaker (All (IsWithin m)) (λ l. All (IsWithin n) (map f l)) (λ l k.
-        All-map (IsWithin n) f l (All-weaker (IsWithin m) (λ u. IsWithin n (f u)) step l k)) loops h)
+    All-map (IsWithin n) f l (All-weaker (IsWithin m) (λ u. IsWithin n (f u)) step l k)) loops h)
 
 pub swept_outline : (sweep : Vector) (loops moved : List (List Vector)) → moved ≡ map (λ l. map (λ u. plus u sweep) l) loops
     → IsWithin (2 ^ 61 - 1) sweep → IsOutline (2 ^ 61 - 1) loops → IsOutline (2 ^ 62 - 1) moved
@@ -50,7 +50,7 @@ pub side_outline : (sweep u v : Vector) (loops : List (List Vector)) → loops �
 side_outline sweep u v loops e hu hv hs =
     one_outline (u ∷ v ∷ plus v sweep ∷ plus u sweep ∷ []) loops
     (listed_loop (2 ^ 62 - 1) {qs = u ∷ v ∷ plus v sweep ∷ plus u sweep ∷ []} refl
-      (wider u hu tt, (wider v hv tt, (wider (plus v sweep) (plus_within v sweep hv hs) tt, (wider (plus u sweep) (plus_within u sweep hu hs) tt, tt)))) tt)
+    (wider u hu tt, (wider v hv tt, (wider (plus v sweep) (plus_within v sweep hv hs) tt, (wider (plus u sweep) (plus_within u sweep hu hs) tt, tt)))) tt)
     e
 
 small_zero : unsigned_abs (pos 0) ≤ 2 ^ 61 - 1
@@ -59,11 +59,16 @@ small_zero = leb→le 0 (2 ^ 61 - 1) tt
 pub block_outline : (size : Vector) (loops : List (List Vector)) → loops ≡ block_loops size → IsWithin (2 ^ 61 - 1) size → IsOutline (2 ^ 61 - 1) loops
 block_outline size loops e h =
     one_outline corners loops
-    (listed_loop (2 ^ 61 - 1) {qs = corners} refl
-      (record { x = small_zero; y = small_zero; z = small_zero },
-      (record { x = h.x; y = small_zero; z = small_zero },
-      (record { x = h.x; y = h.y; z = small_zero },
-      (record { x = small_zero; y = h.y; z = small_zero }, tt)))) tt)
+    (listed_loop (2 ^ 61 - 1) {qs = corners} refl (
+      record { x = small_zero; y = small_zero; z = small_zero },
+      (
+        record { x = h.x; y = small_zero; z = small_zero },
+        (
+          record { x = h.x; y = h.y; z = small_zero },
+          (record { x = small_zero; y = h.y; z = small_zero }, tt),
+        ),
+      ),
+    ) tt)
     e
   where
     corners : List Vector

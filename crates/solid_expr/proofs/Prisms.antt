@@ -69,3 +69,13 @@ prism_listed at sweep loops bottom top faces eb et e =
     e ∙ ap (λ f. f ∷ top ∷ flat_map (loop_sides at sweep) loops) eb
     ∙ ap (λ f. face_at at loops ∷ f ∷ flat_map (loop_sides at sweep) loops) et
     ∙ ap (λ fs. face_at at loops ∷ face_at at (map (λ l. map (λ u. plus u sweep) l) loops) ∷ fs) (sides_are at sweep loops)
+
+-- what is made of each element of a list, one after another
+pub pushed_step : {X Y : Type 0} (f : X → Y) (xs : List X) (i : ℕ) (d : X) (ys more : List Y) (y : Y) (all : List Y) → i < length xs → more ≡ ys ++ y ∷ [] → y ≡ f (get_or xs i d)
+    → ys ++ map f (drop i xs) ≡ all → more ++ map f (drop (i + 1) xs) ≡ all
+pushed_step f xs i d ys more y all l e g h =
+    ap (λ zs. zs ++ map f (drop (i + 1) xs)) e
+    ∙ append_assoc ys (y ∷ []) (map f (drop (i + 1) xs))
+    ∙ ap (λ w. ys ++ (w ∷ map f (drop (i + 1) xs))) g
+    ∙ ap (λ zs. ys ++ map f zs) (sym (drop_more xs i d l))
+    ∙ h

@@ -53,6 +53,12 @@ fn are_bounded(solids: &[Solid]) -> bool
     true
 }
 
+fn count_loop(counted: &Loop) -> u128
+    ensures { result ≡ length counted.now }
+{
+    counted.len() as u128
+}
+
 /// How many corners the loops have together.
 fn count_corners(loops: &[Loop]) -> u128
     requires { sum_by length loops.now < 2 ^ 128 }
@@ -60,7 +66,7 @@ fn count_corners(loops: &[Loop]) -> u128
 {
     let mut count = 0;
     for l in loops {
-        count += l.len() as u128;
+        count += count_loop(l);
     }
     count
 }
@@ -101,6 +107,7 @@ pub fn count_triangles(solid: &Solid) -> u128
 
 /// How many triangles and half-spaces the solids have together.
 #[cycle(count)]
+#[tactic(auto, using(crate::proofs::Counts::part_small))]
 fn count_parts(solids: &[Solid]) -> u128
     requires { count_triangles (united (map shape_of solids.now)) < 2 ^ 128 }
     ensures { result ≡ count_triangles (united (map shape_of solids.now)) }

@@ -7,6 +7,8 @@ mod face_loops;
 mod lift;
 mod prism;
 mod solid;
+#[cfg(test)]
+mod tests;
 mod vectors;
 
 pub use count::{count_triangles, is_bounded};

@@ -13,7 +13,7 @@ returns-clause-value c =
     let wall = to_z-of_z w128 c.args.wall c.ranges.wall in
     IfOk-weaker c.two_loops.result (λ loops. loops ≡ c.in_ok-outer.outer ∷ c.in_ok-between.field-0 ∷ []) (λ loops. loops ≡ hollow c.args.x c.args.y c.args.wall)
     (λ loops e. e ∙ ap₂ (λ l k. l ∷ k ∷ []) c.in_ok-outer.ensures.value c.in_ok-between.ensures.value
-      ∙ hollow_ends c.args.x c.args.y c.args.wall x y wall
-        c.centred-x.ensures.lower c.centred-x.ensures.upper c.centred-y.ensures.lower c.centred-y.ensures.upper
-        c.within.ensures.lower c.within.ensures.upper c.within-2.ensures.lower c.within-2.ensures.upper)
+    ∙ hollow_ends c.args.x c.args.y c.args.wall x y wall
+    c.centred-x.ensures.lower c.centred-x.ensures.upper c.centred-y.ensures.lower c.centred-y.ensures.upper
+    c.within.ensures.lower c.within.ensures.upper c.within-2.ensures.lower c.within-2.ensures.upper)
     c.two_loops.ensures.value

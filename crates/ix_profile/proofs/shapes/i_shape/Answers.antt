@@ -14,7 +14,7 @@ returns-clause-value c =
     let flange = to_z-of_z w128 c.args.flange c.ranges.flange in
     IfOk-weaker c.one_loop.result (λ loops. loops ≡ c.in_ok-i_loop.field-0 ∷ []) (λ loops. loops ≡ i_shape c.args.width c.args.depth c.args.web c.args.flange)
     (λ loops e. e ∙ ap (λ l. l ∷ []) c.in_ok-i_loop.ensures.value
-      ∙ i_ends c.args.width c.args.depth c.args.web c.args.flange width depth web flange
-        c.centred-x.ensures.lower c.centred-x.ensures.upper c.centred-y.ensures.lower c.centred-y.ensures.upper
-        c.centred.ensures.lower c.centred.ensures.upper c.within.ensures.lower c.within.ensures.upper)
+    ∙ i_ends c.args.width c.args.depth c.args.web c.args.flange width depth web flange
+    c.centred-x.ensures.lower c.centred-x.ensures.upper c.centred-y.ensures.lower c.centred-y.ensures.upper
+    c.centred.ensures.lower c.centred.ensures.upper c.within.ensures.lower c.within.ensures.upper)
     c.one_loop.ensures.value
