@@ -104,7 +104,9 @@ pub fn world_frame(chain: &[(u64, Frame)]) -> Result<Frame, Refusal>
     };
     let mut frame = first.1;
     for link in rest {
-        frame = frame.then(&link.1).map_err(|fault| refusal_at(link.0, fault))?;
+        frame = frame
+            .then(&link.1)
+            .map_err(|fault| refusal_at(link.0, fault))?;
     }
     Ok(frame)
 }

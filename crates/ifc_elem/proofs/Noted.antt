@@ -28,7 +28,6 @@ noted before between now element relation found out put items n =
     here_or_there before now element relation found n (nat_eq element n) (eqb-true element n)
     (put n ∙ ap (cond (nat_eq element n) (Some found)) (out n) ∙ taken_out (nat_eq element n) None (before n) (Some found)) items
 
-
 pub next_noted : (b : Bool) (relation : ℕ) (before now own rest all : List ℕ) → own ≡ (if b then relation ∷ [] else []) → now ≡ before ++ own
     → all ≡ before ++ (if b then relation ∷ rest else rest) → all ≡ now ++ rest
 next_noted true relation before now own rest all mine grown is =

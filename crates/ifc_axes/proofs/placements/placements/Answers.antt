@@ -21,7 +21,7 @@ loop-parent-preserved c =
       few = fewer c.len.result c.in-Ok.read.0 c.loop-parent.found.items c.push.new.self.items counted c.if-len-eq64.false c.loop-parent.invariant.few c.in-Ok-push.ensures.items;
       simple = one_more_simple c.args.table.now c.in-Ok.read.0 c.loop-parent.found.items c.push.new.self.items c.in-Ok-push.ensures.items c.loop-parent.invariant.simple c.in-Ok.ensures.simple;
       rest = goes_on c.args.table.now c.args.product c.in-Some.number c.len.result c.loop-parent.parent c.loop-parent.found.items c.push.new.self.items c.in-Ok.read
-        counted c.if-len-eq64.false c.loop-parent.invariant.few c.in-Some.is c.loop-parent.invariant.rest c.in-Ok.ensures.value c.in-Ok-push.ensures.items;
+          counted c.if-len-eq64.false c.loop-parent.invariant.few c.in-Some.is c.loop-parent.invariant.rest c.in-Ok.ensures.value c.in-Ok-push.ensures.items;
     }
 
 pub returns-clause-value : goal.returns-clause-value
