@@ -17,4 +17,4 @@ pub use kinds::{
 };
 pub use numbers::{if_unset, members, positive};
 pub use points::{axes, direction, is_zero};
-pub use units::length_unit;
+pub use units::{first_project, length_unit, unit_of};

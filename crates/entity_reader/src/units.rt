@@ -21,8 +21,8 @@ fn says(reading: Result<Option<&[u8]>, AttrFault>, word: &[u8]) -> bool
     }
 }
 
-/// The first project of the file.
-fn first_project(table: &Table<'_>) -> Option<u64>
+/// The first project of the file (IfcProject).
+pub fn first_project(table: &Table<'_>) -> Option<u64>
     ensures value { result ≡ first_project table.now }
     ensures simple { IfSome result (IsSimple table.now) }
 {
@@ -36,6 +36,7 @@ fn first_project(table: &Table<'_>) -> Option<u64>
 /// Whether the instance is a unit of length.
 fn is_length_unit(table: &Table<'_>, n: u64) -> bool
     ensures value { result ≡ is_length_unit table.now n }
+    ensures simple { IsTrue result → IsSimple table.now n }
 {
     is_one_of(table, &[Kind::SiUnit, Kind::ConversionBasedUnit], n)
         && says(table.attr_enum(n, 2), b"LENGTHUNIT")
@@ -44,6 +45,7 @@ fn is_length_unit(table: &Table<'_>, n: u64) -> bool
 /// The first of the members of Units that is a unit of length.
 fn first_length_unit(table: &Table<'_>, units: u64, members: &[Param]) -> Option<u64>
     ensures value { result ≡ first_length_unit table.now units members.now }
+    ensures simple { IfSome result (IsSimple table.now) }
 {
     for member in members {
         if let Ok(n) = table.param_ref(units, 1, member) {
@@ -55,10 +57,11 @@ fn first_length_unit(table: &Table<'_>, units: u64, members: &[Param]) -> Option
     None
 }
 
-/// The unit of length of a project, if it has one.
-fn unit_of(table: &Table<'_>, project: u64) -> Result<Option<u64>, Refusal>
+/// The unit of length of a project, if it has one: an IfcSIUnit or IfcConversionBasedUnit.
+pub fn unit_of(table: &Table<'_>, project: u64) -> Result<Option<u64>, Refusal>
     requires { IsSimple table.now project }
-    ensures { result ≡ unit_of table.now project }
+    ensures value { result ≡ unit_of table.now project }
+    ensures simple { IfOk result (λ unit. IfSome unit (IsSimple table.now)) }
 {
     let units = named_instance(table, &[Kind::UnitAssignment], project, 9)?;
     Ok(first_length_unit(table, units, members(table, units, 1)?))

@@ -2,10 +2,11 @@
 #![tactic(auto)]
 
 mod index;
-mod innermost;
 mod table;
 #[cfg(test)]
 mod tests;
+mod typed_values;
 
 pub use spec_table::AttrFault;
-pub use table::Table;
+pub use table::{Table, param_list};
+pub use typed_values::innermost;

@@ -7,7 +7,7 @@ ghost use Rattle.step_table.specs.Answers.{as_reading, as_reading_if_set};
 ghost use Rattle.step_table.specs.Places.{first_place};
 
 use crate::index::places_of;
-use crate::innermost::innermost;
+use crate::typed_values::innermost;
 use indexmap::IndexMap;
 use ix_num::Decimal;
 use spec_step::{Body, Instance, Param};
@@ -282,8 +282,12 @@ fn inside(text: &[u8]) -> &[u8]
     }
 }
 
-/// The members of a list.
-fn param_list(at: u64, position: usize, list: &Param) -> Result<&[Param], AttrFault>
+/// The members of a list, as they stand: `list` stands in the attribute of `at` at this position, which a fault names.
+///
+/// # Errors
+///
+/// `BadAttribute` exactly where it is no list, unset or derived ones included.
+pub fn param_list(at: u64, position: usize, list: &Param) -> Result<&[Param], AttrFault>
     ensures { as_reading result ≡ read_list at position list.now }
 {
     match innermost(list) {

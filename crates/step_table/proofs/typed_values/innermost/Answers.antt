@@ -1,6 +1,6 @@
 use Rattle.std.proofs.Common.{◌∙◌}
 use Rattle.step_table.proofs.Inwards.{shallower, same_innermost}
-use Rattle.step_table.proofs.innermost.innermost.Goals as goal
+use Rattle.step_table.proofs.typed_values.innermost.Goals as goal
 
 pub loop-found-smaller : goal.loop-found-smaller
 loop-found-smaller c = shallower c.loop-found.found.now c.in-Typed.field-0 c.in-Typed.inner c.get-found.result.now c.in-Typed.is c.get-found.ensures

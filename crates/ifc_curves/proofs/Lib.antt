@@ -1,0 +1,4 @@
+mod Indices
+mod Joints
+mod Looped
+pub mod Outlined

@@ -1,0 +1,113 @@
+use super::*;
+use entity_reader::has_kind;
+use ifc_axes::GeomIn;
+use ifc_kinds::Kind;
+use ix_place::{LengthUnit, Prefix};
+use ix_profile::Loops;
+use std::alloc::{AllocError, Global};
+use std::test::Fail;
+use step_table::Table;
+use step_text::parse_file;
+
+const SAMPLE: &str = "ISO-10303-21;HEADER;FILE_SCHEMA(('IFC4'));ENDSEC;DATA;
+#1=IFCCARTESIANPOINTLIST2D(((0.,0.),(4.,0.),(4.,3.),(0.,3.)));
+#2=IFCCARTESIANPOINTLIST2D(((1.,1.),(2.,1.),(1.,2.)));
+#3=IFCINDEXEDPOLYCURVE(#1,$,.F.);
+#4=IFCINDEXEDPOLYCURVE(#2,$,.F.);
+#5=IFCCARTESIANPOINT((10.,20.));
+#6=IFCDIRECTION((0.,1.));
+#7=IFCAXIS2PLACEMENT2D(#5,#6);
+#9=IFCARBITRARYPROFILEDEFWITHVOIDS(.AREA.,$,#3,(#4));
+#10=IFCEXTRUDEDAREASOLID(#9,$,$,1.);
+ENDSEC;END-ISO-10303-21;";
+
+/// The sample with another line of the profile.
+fn with_profile(alloc: Global, line: &str) -> Result<String, AllocError> {
+    let old = "#9=IFCARBITRARYPROFILEDEFWITHVOIDS(.AREA.,$,#3,(#4));";
+    let (before, behind) = SAMPLE.split_once(old).unwrap_or((SAMPLE, ""));
+    let mut text = String::from_str(alloc, before)?;
+    text.push_str(line)?;
+    text.push_str(behind)?;
+    Ok(text)
+}
+
+/// The corners of loops in micrometres.
+fn loops_text(alloc: Global, loops: &Loops) -> Result<String, AllocError> {
+    let mut text = String::new(alloc);
+    for l in loops.as_slice() {
+        for p in l.points() {
+            write!(text, "{},{} ", p.x / 1000, p.y / 1000)?;
+        }
+        text.push_str("| ")?;
+    }
+    Ok(text)
+}
+
+fn profile_text(alloc: Global, table: &Table<'_>) -> Result<String, AllocError> {
+    let unit = LengthUnit::of_metre(Some(Prefix::Milli));
+    let g = GeomIn { unit, step: 1000 };
+    if !has_kind(table, 10, Kind::ExtrudedAreaSolid) {
+        return String::from_str(alloc, "no extrusion");
+    }
+    match named_profile(alloc, table, &g, 10, 1, 100) {
+        Ok((loops, count)) => {
+            let mut text = loops_text(alloc, &loops)?;
+            write!(text, "{count}")?;
+            Ok(text)
+        }
+        Err(fault) => format!(in alloc; "{fault:?}"),
+    }
+}
+
+fn answer(alloc: Global, text: &str) -> Result<String, AllocError> {
+    match parse_file(alloc, text.as_bytes()) {
+        Ok(file) => profile_text(alloc, &Table::of(alloc, file)?),
+        Err(fault) => format!(in alloc; "{fault:?}"),
+    }
+}
+
+#[test]
+fn reads_profiles(rt: HostRuntime) -> Result<(), Fail> {
+    for (line, want) in [
+        (
+            "#9=IFCARBITRARYPROFILEDEFWITHVOIDS(.AREA.,$,#3,(#4));",
+            "0,0 4000,0 4000,3000 0,3000 | 1000,1000 2000,1000 1000,2000 | 142",
+        ),
+        (
+            "#9=IFCARBITRARYCLOSEDPROFILEDEF(.AREA.,$,#3);",
+            "0,0 4000,0 4000,3000 0,3000 | 124",
+        ),
+        (
+            "#9=IFCRECTANGLEPROFILEDEF(.AREA.,$,#7,4.,2.);",
+            "11000,18000 11000,22000 9000,22000 9000,18000 | 124",
+        ),
+        (
+            "#9=IFCRECTANGLEHOLLOWPROFILEDEF(.AREA.,$,$,4.,2.,0.5,$,0.);",
+            "-2000,-1000 2000,-1000 2000,1000 -2000,1000 | -1500,-500 1500,-500 1500,500 -1500,500 | 148",
+        ),
+        (
+            "#9=IFCRECTANGLEHOLLOWPROFILEDEF(.AREA.,$,$,4.,2.,1.,0.1,$);",
+            "Refused(BadAttribute { at: 9, position: 6 })",
+        ),
+        (
+            "#9=IFCISHAPEPROFILEDEF(.AREA.,$,$,4.,2.,1.,0.5,$,$,0);",
+            "-2000,-1000 2000,-1000 2000,-500 500,-500 500,500 2000,500 2000,1000 -2000,1000 -2000,500 -500,500 -500,-500 -2000,-500 | 172",
+        ),
+        (
+            "#9=IFCISHAPEPROFILEDEF(.AREA.,$,$,4.,2.,1.,0.5,$,0.1,$);",
+            "Refused(Curved { at: 9 })",
+        ),
+        (
+            "#9=IFCCIRCLEPROFILEDEF(.AREA.,$,$,4.);",
+            "Refused(Unsupported { at: 9 })",
+        ),
+    ] {
+        let text = with_profile(rt.alloc(), line)?;
+        assert_eq!(rt;
+            answer(rt.alloc(), text.as_str())?.as_str(),
+            want,
+            "at {line}"
+        );
+    }
+    Ok(())
+}

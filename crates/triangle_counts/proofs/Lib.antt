@@ -1,0 +1,4 @@
+pub mod Reaches
+pub mod Swept
+pub mod Profiles
+pub mod Counts
