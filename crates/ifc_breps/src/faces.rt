@@ -7,7 +7,7 @@ ghost use Rattle.ifc_numbers.specs.Answers.{ReadsAs};
 
 use crate::bounds::member_bound;
 use entity_reader::{instance_of_kinds, member_instance, members};
-use ifc_axes::{GeomIn, ItemFault};
+use ifc_numbers::{GeomIn, ItemFault};
 use ifc_kinds::Kind;
 use ix_profile::Loops;
 use solid_expr::Face;
