@@ -1,4 +1,4 @@
-ghost use Rattle.std.specs.Prelude.{◌≡◌, ◌≤◌, ◌^◌, unsigned_abs, IfOk};
+ghost use Rattle.std.specs.Prelude.{◌≡◌, ◌≤◌, ◌≤ℤ◌, ◌^◌, pos, unsigned_abs, IfOk};
 ghost use Rattle.spec_num.specs.Decimals.{most_units};
 ghost use Rattle.spec_table.specs.Sections.{IsSimple};
 ghost use Rattle.spec_table.specs.Attributes.{attr_ref, attr_enum};
@@ -12,17 +12,21 @@ ghost use Rattle.ifc_numbers.specs.Measures.{file_of};
 
 use crate::measures::GeomIn;
 use entity_reader::refusal_of;
+use ix_place::LengthUnit;
 use spec_refusal::Refusal;
 use spec_step::Param;
 use step_table::Table;
 
 /// A length of an instance in nanometres, from a decimal in units of 10^-12.
+#[tactic(auto, using(crate::proofs::Lengths::length_above))]
 fn length_within(g: &GeomIn, at: u64, units: i128) -> Result<i128, Refusal>
     requires { unsigned_abs units ≤ most_units }
     ensures value { result ≡ found (NumberTooLarge at) (length_of g.now.unit units) }
     ensures within { IfOk result (λ length. unsigned_abs length ≤ 10 ^ 16) }
+    ensures above { pos 0 ≤ℤ units → IfOk result (λ length. pos 0 ≤ℤ length) }
 {
-    match g.unit.length(units) {
+    let LengthUnit { nano } = g.unit;
+    match (LengthUnit { nano }).length(units) {
         Some(length) => Ok(length as i128),
         None => Err(Refusal::NumberTooLarge { at }),
     }

@@ -3,6 +3,8 @@ ghost use Rattle.spec_place.specs.Vectors.{IsWithin};
 ghost use Rattle.spec_table.specs.Sections.{IsSimple};
 ghost use Rattle.spec_refusal.specs.Reads.{next};
 ghost use Rattle.spec_entity.specs.Points.{ratio};
+ghost use Rattle.spec_place.specs.Directions as directions;
+ghost use Rattle.spec_geometry.specs.Files.{placed};
 ghost use Rattle.spec_geometry.specs.Points as points;
 ghost use Rattle.ifc_numbers.specs.Measures.{file_of};
 
@@ -101,13 +103,21 @@ fn ratios(table: &Table<'_>, at: u64) -> Result<Vector, Refusal>
     }
 }
 
+/// The direction of three ratios of an instance, in units of 10^-12.
+fn direction_of(at: u64, ratios: &Vector) -> Result<Dir, Refusal>
+    requires { IsWithin (10 ^ 18) ratios.now }
+    ensures { result ≡ placed at (directions.direction ratios.now) }
+{
+    Dir::of_triple([ratios.x, ratios.y, ratios.z]).map_err(|fault| refusal_at(at, fault))
+}
+
 /// A direction (IfcDirection) in space.
 pub fn direction(table: &Table<'_>, at: u64) -> Result<Dir, Refusal>
     requires { IsSimple table.now at }
     ensures { result ≡ points.direction table.now at }
 {
     let found = ratios(table, at)?;
-    Dir::of_triple([found.x, found.y, found.z]).map_err(|fault| refusal_at(at, fault))
+    direction_of(at, &found)
 }
 
 /// A direction (IfcDirection) in the plane; a third ratio is read, and then counts as 0.
@@ -116,7 +126,12 @@ pub fn plane_direction(table: &Table<'_>, at: u64) -> Result<Dir, Refusal>
     ensures { result ≡ points.plane_direction table.now at }
 {
     let found = ratios(table, at)?;
-    Dir::of_triple([found.x, found.y, 0]).map_err(|fault| refusal_at(at, fault))
+    let flat = Vector {
+        x: found.x,
+        y: found.y,
+        z: 0,
+    };
+    direction_of(at, &flat)
 }
 
 /// The direction in space that an attribute names, if it is set.
