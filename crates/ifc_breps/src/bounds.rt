@@ -9,7 +9,7 @@ ghost use Rattle.ifc_numbers.specs.Measures.{file_of};
 ghost use Rattle.ifc_numbers.specs.Answers.{ReadsAs};
 
 use entity_reader::{instance_of_kinds, member_instance, members, named_instance};
-use ifc_axes::{GeomIn, ItemFault, point};
+use ifc_numbers::{GeomIn, ItemFault, point};
 use ifc_curves::{Points, count_with};
 use ifc_kinds::Kind;
 use ix_profile::Loop;

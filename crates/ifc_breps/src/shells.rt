@@ -6,7 +6,7 @@ ghost use Rattle.ifc_breps.specs.Shells.{with_shells, ReadsFaces};
 
 use crate::faces::member_face;
 use entity_reader::{has_kind, instance_of_kinds, member_instance, members, named_instance};
-use ifc_axes::{GeomIn, ItemFault};
+use ifc_numbers::{GeomIn, ItemFault};
 use ifc_kinds::Kind;
 use solid_expr::Face;
 use spec_step::Param;

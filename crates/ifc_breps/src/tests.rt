@@ -1,6 +1,6 @@
 use super::*;
 use entity_reader::has_kind;
-use ifc_axes::GeomIn;
+use ifc_numbers::GeomIn;
 use ifc_kinds::Kind;
 use ix_place::{LengthUnit, Prefix};
 use solid_expr::Face;
