@@ -1,9 +1,8 @@
 -- The printed corners of a mesh.
-use Rattle.std.proofs.Common.{◌≡◌, ℕ, ◌+◌, ◌*◌, ◌<◌, ◌≤◌, ◌^◌, List, [], ◌∷◌, ◌++◌, length, map, take, get_or, ℤ, pos, ◌-ℤ◌, ◌*ℤ◌, ◌<ℤ◌, unsigned_abs, All, refl, sym, ap, subst, ◌∙◌, arith}
+use Rattle.std.proofs.Common.{◌≡◌, ℕ, ◌+◌, ◌<◌, ◌≤◌, ◌^◌, List, [], ◌∷◌, ◌++◌, length, map, take, get_or, ℤ, pos, ◌-ℤ◌, ◌*ℤ◌, unsigned_abs, All, refl, sym, ap, subst, ◌∙◌, arith}
 use Rattle.std.proofs.lemmas.Int.{ints}
 use Rattle.std.proofs.lemmas.List.{length-map, take_more, take_all}
 use Rattle.std.proofs.lemmas.List.Elements.{All-nil, All-cons, All-head, All-tail, All-weaker}
-use Rattle.spec_num.specs.Rounding.{round_of}
 use Rattle.spec_space.specs.declared.Vector.{Vector}
 use Rattle.spec_space.specs.Points.{minus}
 use Rattle.spec_place.specs.declared.transform.Transform.{Transform}
@@ -15,7 +14,7 @@ use Rattle.spec_headline.specs.Reduced.{IsReducedPoint}
 use Rattle.plane_core.specs.declared.numbers.Corner.{Corner}
 use Rattle.plane_core.specs.Views.{point_of}
 use Rattle.plane_core.proofs.Laws.{divides_size}
-use Rattle.exact_mesh.specs.Meshes.{vector_of, vector_at}
+use Rattle.exact_mesh.specs.Meshes.{vector_of}
 use Rattle.exact_mesh.specs.Ranges.{IsWithin as IsNear, AreNear}
 use Rattle.world_print.specs.Ranges.{IsStep, IsOnGrid, IsPrintable}
 use Rattle.world_print.specs.Elements.{page_corners}

@@ -1,9 +1,7 @@
 -- What code computes for a coordinate, and how large it is.
-use Rattle.std.proofs.Common.{◌≡◌, ℕ, ◌+◌, ◌*◌, ◌≤◌, ◌^◌, ℤ, pos, ◌<ℤ◌, ◌*ℤ◌, unsigned_abs, FitsSigned, to_z, of_z, T, leb, refl, sym, subst, ap, ap₂, ◌∙◌, arith}
-use Rattle.std.proofs.lemmas.Int.{ints, to_z-of_z}
+use Rattle.std.proofs.Common.{◌≡◌, ℕ, ◌+◌, ◌*◌, ◌≤◌, ◌^◌, ℤ, pos, ◌<ℤ◌, ◌*ℤ◌, unsigned_abs, T, leb, refl, ap₂, ◌∙◌, arith}
 use Rattle.std.specs.Int.{int_div_euclid}
-use mir.Syntax.{w128}
-use Rattle.integer_laws.proofs.Computed.{Is, arg, again, sum, product}
+use Rattle.integer_laws.proofs.Computed.{Is}
 use Rattle.integer_laws.proofs.Sizes.{size_mul}
 use Rattle.plane_core.proofs.Sizes.{after, small}
 use Rattle.spec_space.specs.declared.Vector.{Vector}

@@ -1,4 +1,4 @@
-use Rattle.std.proofs.Common.{◌≡◌, ◌++◌, FitsSigned, ap, ◌∙◌, arith}
+use Rattle.std.proofs.Common.{◌++◌, FitsSigned, ap, ◌∙◌, arith}
 use Rattle.std.proofs.lemmas.Int.{to_z-of_z, ints}
 use mir.Syntax.{w64}
 use Rattle.model_gen.specs.Lines.{coordinate, further}

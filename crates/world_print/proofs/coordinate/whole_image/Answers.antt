@@ -1,4 +1,3 @@
-use Rattle.std.proofs.Common.{◌^◌}
 use Rattle.integer_laws.proofs.Computed.{arg, again, sum, product, fits}
 use Rattle.world_print.proofs.Sizes.{number_is, within, dot_is, step_is}
 use Rattle.world_print.proofs.coordinate.whole_image.Goals as goal

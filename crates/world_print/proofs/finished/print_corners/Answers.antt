@@ -1,6 +1,3 @@
-use Rattle.std.proofs.Common.{sym, subst}
-use Rattle.std.proofs.lemmas.List.Elements.{All-get_or}
-use Rattle.world_print.specs.Ranges.{IsOnGrid}
 use Rattle.world_print.proofs.Prints.{image_in, next_printed, all_printed}
 use Rattle.world_print.proofs.finished.print_corners.Goals as goal
 

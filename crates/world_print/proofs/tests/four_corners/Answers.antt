@@ -1,4 +1,4 @@
-use Rattle.std.proofs.Common.{List, [], ◌∷◌, All, sym, subst}
+use Rattle.std.proofs.Common.{[], ◌∷◌, All, sym, subst}
 use Rattle.std.proofs.lemmas.List.Elements.{All-cons, All-nil}
 use Rattle.plane_core.specs.declared.numbers.Corner.{Corner}
 use Rattle.world_print.specs.Ranges.{IsOnGrid}
