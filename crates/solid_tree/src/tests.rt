@@ -15,9 +15,7 @@ use triangle_planes::{Forms, forms_of};
 fn is_near(v: Vector) -> bool
     ensures { IsTrue result → AreSteps v }
 {
-    v.x.unsigned_abs() <= 1 << 20
-        && v.y.unsigned_abs() <= 1 << 20
-        && v.z.unsigned_abs() <= 1 << 20
+    v.x.unsigned_abs() <= 1 << 20 && v.y.unsigned_abs() <= 1 << 20 && v.z.unsigned_abs() <= 1 << 20
 }
 
 /// Whether a triangle lies within the grid, and its planes within the sizes of planes.
@@ -111,7 +109,14 @@ fn takes_openings_out_of_items(rt: HostRuntime) -> Result<(), AllocError> {
     let solid = cut_tetrahedron(alloc, plane)?.expect(&rt, "a solid");
     if book.count() < 100 {
         let tree = solid_tree(alloc, &mut book, &mut pool, &solid)?;
-        for (halves, value) in [(-1, Some(false)), (1, Some(true)), (599, Some(true)), (600, None), (601, Some(false)), (1601, Some(false))] {
+        for (halves, value) in [
+            (-1, Some(false)),
+            (1, Some(true)),
+            (599, Some(true)),
+            (600, None),
+            (601, Some(false)),
+            (1601, Some(false)),
+        ] {
             let corner = above(halves).expect(&rt, "a corner");
             assert_eq!(rt; value_at(&pool, tree, &book, &corner), value);
         }

@@ -21,9 +21,7 @@ fn triangle(a: Vector, b: Vector, c: Vector) -> GridTriangle {
 fn is_near(v: Vector) -> bool
     ensures { IsTrue result → AreSteps v }
 {
-    v.x.unsigned_abs() <= 1 << 20
-        && v.y.unsigned_abs() <= 1 << 20
-        && v.z.unsigned_abs() <= 1 << 20
+    v.x.unsigned_abs() <= 1 << 20 && v.y.unsigned_abs() <= 1 << 20 && v.z.unsigned_abs() <= 1 << 20
 }
 
 /// Whether a triangle lies within the grid, and its planes within the sizes of planes.
@@ -119,9 +117,22 @@ fn warped_cube(other_diagonal: bool) -> [GridTriangle; 14] {
 fn counts_a_warped_cube(rt: HostRuntime) -> Result<(), AllocError> {
     let heights = [4, 7996, 8001, 8004, -4];
     let told_first = told(rt.alloc(), &warped_cube(false), &heights)?;
-    assert!(rt; told_first.as_slice() == [Some(true), Some(true), Some(true), Some(false), Some(false)].as_slice());
+    assert!(rt;
+        told_first.as_slice()
+            == [Some(true), Some(true), Some(true), Some(false), Some(false)].as_slice()
+    );
     let told_other = told(rt.alloc(), &warped_cube(true), &heights)?;
-    assert!(rt; told_other.as_slice() == [Some(true), Some(true), Some(false), Some(false), Some(false)].as_slice());
+    assert!(rt;
+        told_other.as_slice()
+            == [
+                Some(true),
+                Some(true),
+                Some(false),
+                Some(false),
+                Some(false)
+            ]
+            .as_slice()
+    );
     Ok(())
 }
 
