@@ -1,8 +1,8 @@
-ghost use Rattle.std.specs.Prelude.{◌^◌, ◌≤◌, unsigned_abs, IsTrue, All, map};
+ghost use Rattle.std.specs.Prelude.{◌^◌, ◌≤◌, unsigned_abs, IsTrue};
 ghost use Rattle.grid_boxes.specs.Ranges.{AreSteps};
 ghost use Rattle.grid_solid.specs.Triangles.{triangle_of, IsNear, HasForms};
 
-use crate::{face_tree, primitive_tree, triangle_tree};
+use crate::{primitive_tree, triangle_tree};
 use grid_solid::{GridNode, GridTriangle};
 use plane_core::{Corner, Plane, PlaneBook, meet};
 use spec_space::Vector;
@@ -38,45 +38,35 @@ fn is_fit(t: &GridTriangle) -> bool
     }
 }
 
-fn are_fit(triangles: &[GridTriangle]) -> bool
-    ensures near { IsTrue result → All IsNear (map triangle_of triangles.now) }
-    ensures forms { IsTrue result → All HasForms (map triangle_of triangles.now) }
-{
-    for t in triangles {
-        if !is_fit(t) {
-            return false;
-        }
-    }
-    true
-}
-
 /// The corner at x = 1001/2, y = 1003/4 and z = eighths/8.
 fn above(eighths: i128) -> Option<Corner> {
+    if eighths.unsigned_abs() > 10_000 {
+        return None;
+    }
     let x = Plane::reduced(2, 0, 0, 1001)?;
     let y = Plane::reduced(0, 4, 0, 1003)?;
     let z = Plane::reduced(0, 0, 8, eighths)?;
     meet(&x, &y, &z)
 }
 
-/// Whether these points lie below an odd number of the triangles.
-fn told(
+/// Whether the corner lies below an odd number of the triangles.
+fn is_inside(
     alloc: Global,
     triangles: &[GridTriangle],
-    eighths: &[i128],
-) -> Result<Vec<Option<bool>>, AllocError> {
-    let mut told = Vec::new(alloc);
+    corner: &Corner,
+) -> Result<bool, AllocError> {
+    let mut odd = false;
     let mut book = PlaneBook::new(alloc)?;
     let mut pool = Pool::new(alloc)?;
-    if !are_fit(triangles) || triangles.len() > 1000 || book.count() > 1000 {
-        return Ok(told);
-    }
-    let tree = face_tree(alloc, &mut book, &mut pool, triangles)?;
-    for z in eighths {
-        if let Some(corner) = above(*z) {
-            told.push(value_at(&pool, tree, &book, &corner))?;
+    for t in triangles {
+        if book.count() < 1000 && is_fit(t) {
+            let tree = triangle_tree(alloc, &mut book, &mut pool, t)?;
+            if value_at(&pool, tree, &book, corner) == Some(true) {
+                odd = !odd;
+            }
         }
     }
-    Ok(told)
+    Ok(odd)
 }
 
 /// The triangles of the cube from 0 to 1000 with one corner of its top a step higher; the top is cut along one diagonal or
@@ -115,24 +105,19 @@ fn warped_cube(other_diagonal: bool) -> [GridTriangle; 14] {
 
 #[test]
 fn counts_a_warped_cube(rt: HostRuntime) -> Result<(), AllocError> {
-    let heights = [4, 7996, 8001, 8004, -4];
-    let told_first = told(rt.alloc(), &warped_cube(false), &heights)?;
-    assert!(rt;
-        told_first.as_slice()
-            == [Some(true), Some(true), Some(true), Some(false), Some(false)].as_slice()
-    );
-    let told_other = told(rt.alloc(), &warped_cube(true), &heights)?;
-    assert!(rt;
-        told_other.as_slice()
-            == [
-                Some(true),
-                Some(true),
-                Some(false),
-                Some(false),
-                Some(false)
-            ]
-            .as_slice()
-    );
+    for (eighths, first, other) in [
+        (4, true, true),
+        (7996, true, true),
+        (8001, true, false),
+        (8004, false, false),
+        (-4, false, false),
+    ] {
+        let corner = above(eighths).expect(&rt, "a corner");
+        let inside = is_inside(rt.alloc(), &warped_cube(false), &corner)?;
+        assert_eq!(rt; inside, first);
+        let inside = is_inside(rt.alloc(), &warped_cube(true), &corner)?;
+        assert_eq!(rt; inside, other);
+    }
     Ok(())
 }
 
