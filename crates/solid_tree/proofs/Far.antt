@@ -76,13 +76,13 @@ module _ (w lc ly hc hy qc qy : ℤ) (positive : pos 0 <ℤ w) (low : pos 0 ≤�
   rises_not : pos 0 <ℤ (qc -ℤ lc *ℤ w) → pos 0 <ℤ (qc -ℤ hc *ℤ w) → int_lt left right ≡ false
   rises_not p q =
       let sum = above_zero ((hy *ℤ w -ℤ qy) *ℤ (qc -ℤ lc *ℤ w)) ((qy -ℤ ly *ℤ w) *ℤ (qc -ℤ hc *ℤ w)) (mul_positive (hy *ℤ w -ℤ qy) (qc -ℤ lc *ℤ w) high p)
-          (mul_nonneg (qy -ℤ ly *ℤ w) (qc -ℤ hc *ℤ w) low (weakly (qc -ℤ hc *ℤ w) q)) in
+      (mul_nonneg (qy -ℤ ly *ℤ w) (qc -ℤ hc *ℤ w) low (weakly (qc -ℤ hc *ℤ w) q)) in
       not_less left right (int_lt left right) refl (positive_right w (left -ℤ right) positive (rw (across w lc ly hc hy qc qy) sum))
 
   rises_all : (qc -ℤ lc *ℤ w) <ℤ pos 0 → (qc -ℤ hc *ℤ w) <ℤ pos 0 → int_lt left right ≡ true
   rises_all p q =
       let sum = below_zero ((hy *ℤ w -ℤ qy) *ℤ (qc -ℤ lc *ℤ w)) ((qy -ℤ ly *ℤ w) *ℤ (qc -ℤ hc *ℤ w)) (mul_negative (hy *ℤ w -ℤ qy) (qc -ℤ lc *ℤ w) high p)
-          (mul_nonpos (qy -ℤ ly *ℤ w) (qc -ℤ hc *ℤ w) low (weakly_below (qc -ℤ hc *ℤ w) q)) in
+      (mul_nonpos (qy -ℤ ly *ℤ w) (qc -ℤ hc *ℤ w) low (weakly_below (qc -ℤ hc *ℤ w) q)) in
       less left right (int_lt left right) refl (negative_right w (left -ℤ right) positive (rw (across w lc ly hc hy qc qy) sum))
 
 -- ---- the sizes of corners

@@ -259,7 +259,7 @@ element_tight planes s t is q point cube off out =
     let tree = tree_planes planes t in
     let last = b.plane ∷ [] in
     let found = avoids (body_planes (body_of s)) (wall_list ++ (tree ++ last)) q (λ k c. has_normal k (body_formed s k c)) point
-        (off_three q wall_list tree last (walls_off q cube) (off_planes planes t q off) (single_off q b.plane b.off)) in
+    (off_three q wall_list tree last (walls_off q cube) (off_planes planes t q off) (single_off q b.plane b.off)) in
     let p = found.point in
     let beside = found.beside in
     let at_last : Contains (wall_list ++ (tree ++ last)) b.plane = Contains-append_right wall_list (tree ++ last) b.plane (Contains-append_right tree last b.plane (0, omega arith, refl)) in

@@ -3,8 +3,6 @@
 
 mod elements;
 mod nodes;
-#[cfg(test)]
-mod tests;
 mod unions;
 
 pub use elements::solid_tree;

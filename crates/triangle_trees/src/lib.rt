@@ -4,7 +4,5 @@
 mod primitives;
 mod regions;
 mod sides;
-#[cfg(test)]
-mod tests;
 
 pub use primitives::{face_tree, primitive_tree, triangle_tree};
