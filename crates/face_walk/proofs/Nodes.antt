@@ -1,16 +1,13 @@
 -- Walks of the parts of a tree.
-use Rattle.std.proofs.Common.{◌≡◌, ◌≢◌, ◌⊎◌, inl, inr, ◌<◌, ◌≤◌, ◌+◌, ℕ, zero, suc, length, Bool, true, false, not, cond, ◌&&◌, List, [], ◌∷◌, ◌++◌, Option, Some, None, ℤ, pos, neg_ℤ, ◌<ℤ◌, All, refl, sym, ap, ap₂, subst, ◌∙◌, arith, true≢false}
-use Rattle.std.specs.Prelude.{sum_by, nat_eq, Contains}
-use Rattle.std.specs.List.{list_all, AllPairs}
+use Rattle.std.proofs.Common.{◌≡◌, ◌⊎◌, inl, inr, ◌<◌, ◌≤◌, ◌+◌, ℕ, length, Bool, true, false, cond, ◌&&◌, List, [], ◌∷◌, ◌++◌, Option, Some, ℤ, pos, neg_ℤ, ◌<ℤ◌, All, refl, sym, ap, subst, ◌∙◌, arith, true≢false}
+use Rattle.std.specs.Prelude.{nat_eq}
 use Rattle.std.proofs.lemmas.Int.{ints}
 use Rattle.std.proofs.lemmas.Bool.{eqb-true, eq-eqb, cases_lt}
-use Rattle.std.proofs.lemmas.List.Sums.{sum_by_push, sum_by-append, sum_by-cons}
 use Rattle.std.proofs.lemmas.List.Folds.{list_all-append}
 use Rattle.std.proofs.lemmas.List.Elements.{All-nil, All-cons, All-head, All-tail, All-push, All-contains}
 use Rattle.spec_space.specs.declared.Point.{Point}
 use Rattle.spec_space.specs.declared.Plane.{Plane}
-use Rattle.spec_space.specs.Points.{IsPoint, value, opposite}
-use Rattle.spec_solid.specs.Planes.{front_of, back_of}
+use Rattle.spec_space.specs.Points.{value, opposite}
 use Rattle.plane_core.specs.declared.numbers.Plane.{Plane as BookPlane}
 use Rattle.plane_core.specs.declared.book.PlaneId.{PlaneId}
 use Rattle.integer_laws.proofs.Cancel.{sign_cases}
@@ -18,7 +15,7 @@ use Rattle.convex_cycles.specs.Sides.{is_in_front}
 use Rattle.convex_cycles.proofs.Flags.{front_flag}
 use Rattle.convex_cycles.proofs.Hull.{opposite_front, value-opposite}
 use Rattle.convex_cycles.proofs.Lists.{each_from_all, all_from_each, each_weaker}
-use Rattle.poly_frag.specs.Frags.{plane_at, kept_side, support_of, IsInside}
+use Rattle.poly_frag.specs.Frags.{plane_at, IsInside}
 use Rattle.poly_frag.specs.declared.frag.Edge.{Edge}
 use Rattle.poly_frag.specs.declared.frag.Frag.{Frag}
 use Rattle.plane_cells.specs.Cells.{step_side, IsInCell, HasPointOn}
@@ -27,20 +24,17 @@ use Rattle.plane_cells.specs.declared.steps.Step.{Step}
 use Rattle.plane_cells.proofs.Laws.{points_of_part}
 use Rattle.plane_cells.proofs.Slices.{none_on_wall, polygon_point}
 use Rattle.tree_pool.specs.declared.node.TreeId.{TreeId}
-use Rattle.tree_pool.specs.declared.node.PoolNode.TheVariants.{Leaf, Node}
-use Rattle.tree_pool.specs.Trees.{Tree, leaf, node, value_of, IsPlaneOf}
-use Rattle.tree_pool.specs.Pools.{Slots, node_at, rank_at, StandsFor, AreTrees}
+use Rattle.tree_pool.specs.declared.node.PoolNode.TheVariants.{Node}
+use Rattle.tree_pool.specs.Trees.{Tree, node, IsPlaneOf}
+use Rattle.tree_pool.specs.Pools.{Slots, node_at, StandsFor}
 use Rattle.tree_pool.proofs.Walks.{parts}
 use Rattle.face_walk.specs.Points.{holds}
-use Rattle.face_walk.specs.Faces.{IsAloneOn, told, is_true_at, IsFace}
+use Rattle.face_walk.specs.Faces.{IsAloneOn}
 use Rattle.face_walk.specs.declared.faces.OutFace.{OutFace}
-use Rattle.face_walk.specs.declared.work.Places.{Places}
-use Rattle.face_walk.specs.declared.work.Sheet.{Sheet}
-use Rattle.face_walk.specs.Works.{IsFit, side_tree, neighbour, IsPlace, IsSheetOf, due, due_at, in_frag, seen, IsOnSupport, IsFaceOnPlane, AddsFaces, keeps, in_path, IsVisitAt, is_sought, IsSoughtOnly, AddsOwn}
+use Rattle.face_walk.specs.Works.{IsFit, side_tree, neighbour, IsPlace, IsSheetOf, due_at, in_frag, seen, AddsFaces, keeps, in_path, IsVisitAt, is_sought, IsSoughtOnly, AddsOwn}
 use Rattle.face_walk.proofs.Neighbours.{Side, side_kept, side_own}
 use Rattle.face_walk.proofs.Held.{no_flag, in_front_from_flag, inside_from_held, held_from_inside}
-use Rattle.face_walk.proofs.Placed.{alone_number, kept_is_side, place_on, leaf_place}
-use Rattle.face_walk.proofs.Sheets.{due_same}
+use Rattle.face_walk.proofs.Placed.{alone_number, kept_is_side, place_on}
 
 -- ---- paths
 within_from_flags : (planes : List BookPlane) (p : Point) (steps : List Step) → keeps planes steps p ≡ true → All (λ s. pos 0 <ℤ value (step_side planes s) p) steps

@@ -1,7 +1,6 @@
 -- One step of a walk, and the walk's paths.
-use Rattle.std.proofs.Common.{◌≡◌, ◌≢◌, ◌⊎◌, inl, inr, ◌<◌, ◌≤◌, ◌+◌, ℕ, zero, suc, max, length, take, get_or, Bool, true, false, cond, List, [], ◌∷◌, ◌++◌, append_assoc, Option, Some, All, refl, sym, ap, ap₂, subst, ◌∙◌, arith, true≢false}
-use Rattle.std.specs.Prelude.{sum_by, nat_eq}
-use Rattle.std.specs.List.{AllPairs}
+use Rattle.std.proofs.Common.{◌≡◌, ◌<◌, ◌≤◌, ◌+◌, ℕ, zero, suc, max, length, take, get_or, Bool, true, false, cond, List, [], ◌∷◌, ◌++◌, append_assoc, Option, Some, All, refl, sym, ap, ap₂, subst, ◌∙◌, arith}
+use Rattle.std.specs.Prelude.{nat_eq}
 use Rattle.std.proofs.Math.Seq.{take-length}
 use Rattle.std.proofs.lemmas.List.{take-append-le, length-take-le, length_push}
 use Rattle.std.proofs.lemmas.List.Sums.{sum_by_push, sum_by-cons}
@@ -11,7 +10,6 @@ use Rattle.spec_space.specs.declared.Point.{Point}
 use Rattle.plane_core.specs.declared.numbers.Plane.{Plane as BookPlane}
 use Rattle.plane_core.specs.declared.book.PlaneId.{PlaneId}
 use Rattle.convex_cycles.proofs.Lists.{Each, EachPair, each_from_all, all_from_each, each_split, each_weaker, pair_from_all, all_from_pair}
-use Rattle.poly_frag.specs.Frags.{plane_at}
 use Rattle.plane_cells.specs.Cells.{IsInCell}
 use Rattle.plane_cells.specs.declared.steps.Step.{Step}
 use Rattle.tree_pool.specs.declared.node.TreeId.{TreeId}

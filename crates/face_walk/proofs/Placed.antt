@@ -1,17 +1,17 @@
 -- Places in a tree, one step down.
-use Rattle.std.proofs.Common.{◌≡◌, ◌<◌, ℕ, length, Bool, true, false, List, Some, slice_get, ℤ, pos, ◌<ℤ◌, refl, sym, ap, subst, ◌∙◌, true≢false}
+use Rattle.std.proofs.Common.{◌≡◌, ◌<◌, ℕ, length, Bool, true, false, List, Some, slice_get, pos, ◌<ℤ◌, refl, sym, ap, subst, ◌∙◌, true≢false}
 use Rattle.std.specs.Prelude.{nat_eq}
 use Rattle.std.proofs.lemmas.Bool.{eqb-true, eq-eqb}
 use Rattle.spec_space.specs.declared.Point.{Point}
 use Rattle.spec_space.specs.declared.Plane.{Plane}
-use Rattle.spec_space.specs.Points.{value, opposite}
+use Rattle.spec_space.specs.Points.{value}
 use Rattle.plane_core.specs.declared.numbers.Plane.{Plane as BookPlane}
 use Rattle.plane_core.specs.declared.book.PlaneId.{PlaneId}
 use Rattle.convex_cycles.proofs.Hull.{from_opposite_front}
 use Rattle.poly_frag.specs.Frags.{plane_at, kept_side}
 use Rattle.tree_pool.specs.declared.node.TreeId.{TreeId}
 use Rattle.tree_pool.specs.declared.node.PoolNode.TheVariants.{Leaf, Node}
-use Rattle.tree_pool.specs.Trees.{Tree, leaf, node, level_by, value_of, IsPlaneOf}
+use Rattle.tree_pool.specs.Trees.{Tree, leaf, node, value_of, IsPlaneOf}
 use Rattle.tree_pool.specs.Pools.{Slots, slot_at, node_at, IsLive, StandsFor, AreTrees}
 use Rattle.tree_pool.proofs.Pools.{node_slot, slot_live}
 use Rattle.face_walk.specs.Faces.{IsAloneOn}

@@ -1,16 +1,15 @@
 -- Where the values on the two sides of a fragment differ, all of it is in range, and no wall of the cube is one of its edges.
-use Rattle.std.proofs.Common.{◌≡◌, ◌≢◌, ◌⊎◌, inl, inr, ◌<◌, ◌≤◌, ◌+◌, ℕ, length, Bool, true, false, List, ◌∷◌, slice_get, Option, Some, ℤ, pos, negsuc, neg_ℤ, ◌*ℤ◌, ◌<ℤ◌, ◌≤ℤ◌, unsigned_abs, All, refl, sym, ap, subst, ◌∙◌, arith, true≢false}
+use Rattle.std.proofs.Common.{◌≡◌, ◌≢◌, ◌⊎◌, inl, inr, ◌<◌, ◌≤◌, ◌+◌, length, Bool, true, false, List, ◌∷◌, slice_get, Some, ℤ, pos, negsuc, neg_ℤ, ◌*ℤ◌, ◌<ℤ◌, ◌≤ℤ◌, unsigned_abs, All, refl, sym, subst, ◌∙◌, arith, true≢false}
 use Rattle.std.specs.Prelude.{nat_eq}
 use Rattle.std.proofs.lemmas.Int.{ints, by_lt_z}
 use Rattle.std.proofs.lemmas.Bool.{eqb-true, eq-eqb, cases_lt}
 use Rattle.spec_space.specs.declared.Point.{Point}
 use Rattle.spec_space.specs.declared.Plane.{Plane}
 use Rattle.spec_space.specs.Points.{IsPoint, value, opposite}
-use Rattle.spec_solid.specs.Planes.{front_of, back_of}
 use Rattle.plane_core.specs.declared.numbers.Plane.{Plane as BookPlane}
 use Rattle.plane_core.specs.declared.book.PlaneId.{PlaneId}
 use Rattle.integer_laws.proofs.Cancel.{sign_cases}
-use Rattle.convex_cycles.proofs.Lists.{Each, Member, each_from_all, all_from_each, each_member, each_from_members, member_map}
+use Rattle.convex_cycles.proofs.Lists.{Member, each_from_all, all_from_each, each_member, each_from_members, member_map}
 use Rattle.convex_cycles.proofs.Crossings.{In, Touches, mean_zero}
 use Rattle.convex_cycles.proofs.Hull.{value-opposite}
 use Rattle.convex_cycles.proofs.CutCycles.{to_cycle, edge_of}
@@ -25,7 +24,7 @@ use Rattle.poly_frag.proofs.InsideCube.{on_no_wall}
 use Rattle.poly_frag.proofs.Laws.{inner}
 use Rattle.poly_frag.proofs.Wholes.{corner_in}
 use Rattle.plane_cells.proofs.Near.{beside, beside-IsPoint, beside_within, beside_front}
-use Rattle.tree_pool.specs.Trees.{Tree, level_by, value_of, IsPlaneOf, IsOff}
+use Rattle.tree_pool.specs.Trees.{Tree, value_of, IsPlaneOf, IsOff}
 use Rattle.face_walk.specs.Faces.{IsInRange, IsAloneOn}
 use Rattle.face_walk.specs.Works.{IsFit, neighbour}
 use Rattle.face_walk.proofs.Neighbours.{Side, side_kept, side_own, neighbour_is_point, neighbour_inside, neighbour_in_range}

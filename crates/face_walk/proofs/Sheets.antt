@@ -1,31 +1,30 @@
 -- Sheets one step down.
-use Rattle.std.proofs.Common.{◌≡◌, ◌≢◌, ◌⊎◌, inl, inr, ◌<◌, ◌≤◌, ◌+◌, ◌*◌, ℕ, zero, suc, length, Bool, true, false, not, cond, List, [], ◌∷◌, ◌++◌, Option, Some, ℤ, pos, neg_ℤ, ◌<ℤ◌, All, refl, sym, ap, ap₂, subst, ◌∙◌, arith, true≢false}
-use Rattle.std.specs.Prelude.{sum_by, Contains}
+use Rattle.std.proofs.Common.{◌≡◌, ◌≢◌, ◌⊎◌, inl, inr, ◌<◌, ◌≤◌, ◌+◌, ℕ, zero, suc, length, Bool, true, false, not, cond, List, [], ◌∷◌, ◌++◌, Some, ℤ, pos, neg_ℤ, All, refl, sym, ap, ap₂, subst, ◌∙◌, arith, true≢false}
+use Rattle.std.specs.Prelude.{Contains}
 use Rattle.std.proofs.lemmas.Int.{ints}
 use Rattle.std.proofs.lemmas.List.Sums.{sum_by_push}
 use Rattle.std.proofs.lemmas.List.Elements.{All-push, All-contains}
 use Rattle.spec_space.specs.declared.Point.{Point}
 use Rattle.spec_space.specs.declared.Plane.{Plane}
-use Rattle.spec_space.specs.Points.{IsPoint, value, opposite}
+use Rattle.spec_space.specs.Points.{value, opposite}
 use Rattle.spec_solid.specs.Planes.{front_of, back_of}
 use Rattle.plane_core.specs.declared.numbers.Plane.{Plane as BookPlane}
 use Rattle.plane_core.specs.declared.book.PlaneId.{PlaneId}
 use Rattle.convex_cycles.proofs.Lists.{each_from_all, all_from_each, each_weaker}
-use Rattle.poly_frag.specs.Frags.{plane_at, kept_side, support_of, IsInside, IsPartOf, HasPart, AreEdgesOf}
+use Rattle.poly_frag.specs.Frags.{plane_at, kept_side, IsInside, IsPartOf, HasPart, AreEdgesOf}
 use Rattle.poly_frag.specs.Cycles.{IsFragment}
 use Rattle.poly_frag.specs.declared.frag.Edge.{Edge}
 use Rattle.poly_frag.specs.declared.frag.Frag.{Frag}
 use Rattle.poly_frag.proofs.Wholes.{opposite_side, front_side}
-use Rattle.tree_pool.specs.declared.node.TreeId.{TreeId}
 use Rattle.tree_pool.specs.declared.node.PoolNode.TheVariants.{Leaf}
 use Rattle.tree_pool.specs.Trees.{Tree, leaf, node, height_of, value_of, IsPlaneOf}
 use Rattle.tree_pool.specs.Pools.{Slots, node_at, rank_at, StandsFor, AreTrees}
 use Rattle.face_walk.specs.Points.{holds}
-use Rattle.face_walk.specs.Faces.{IsAloneOn, told, is_true_at, IsFace}
+use Rattle.face_walk.specs.Faces.{IsAloneOn, told, IsFace}
 use Rattle.face_walk.specs.declared.faces.OutFace.{OutFace}
 use Rattle.face_walk.specs.declared.work.Places.{Places}
 use Rattle.face_walk.specs.declared.work.Sheet.{Sheet}
-use Rattle.face_walk.specs.Works.{IsFit, side_tree, neighbour, IsTop, IsCrossing, AreLive, GoesOn, IsPlace, IsSheetOf, IsSafe, due, due_at, in_frag, seen, waiting, weight_of, sheet_weight, sheets_weight, IsOnSupport, IsFaceOnPlane, IsFragmentFace, IsDivided, IsSettled, IsTurn}
+use Rattle.face_walk.specs.Works.{IsFit, side_tree, neighbour, IsTop, IsCrossing, AreLive, GoesOn, IsSheetOf, IsSafe, due, due_at, in_frag, seen, waiting, weight_of, sheet_weight, sheets_weight, IsOnSupport, IsFaceOnPlane, IsFragmentFace, IsDivided, IsSettled, IsTurn}
 use Rattle.face_walk.proofs.Neighbours.{Side, side_kept, side_own}
 use Rattle.face_walk.proofs.SideTrees.{side_height, top_height}
 use Rattle.face_walk.proofs.Held.{inside_from_held, held_by_one, held_by_two}

@@ -1,13 +1,12 @@
 -- What is left of a tree on one side of a plane: its values, its planes and its height.
-use Rattle.std.proofs.Common.{◌≡◌, ◌⊎◌, inl, inr, ◌≤◌, ◌<◌, ◌+◌, ℕ, zero, suc, max, Bool, true, false, cond, nat_eq, List, slice_get, Option, Some, None, ℤ, pos, negsuc, ◌*ℤ◌, ◌+ℤ◌, ◌-ℤ◌, ◌<ℤ◌, refl, sym, ap, subst, ◌∙◌, arith}
+use Rattle.std.proofs.Common.{◌≡◌, inl, inr, ◌≤◌, ◌<◌, ℕ, suc, max, Bool, true, false, cond, nat_eq, List, slice_get, Option, Some, None, ℤ, pos, ◌*ℤ◌, ◌+ℤ◌, ◌-ℤ◌, refl, sym, ap, subst, ◌∙◌, arith}
 use Rattle.std.proofs.lemmas.Bool.{eqb-true, eq-eqb}
 use Rattle.spec_space.specs.declared.Point.{Point}
 use Rattle.spec_space.specs.Points.{value}
 use Rattle.plane_core.specs.declared.numbers.Plane.{Plane}
-use Rattle.plane_core.specs.declared.book.PlaneId.{PlaneId}
 use Rattle.integer_laws.proofs.Products.{zero_left}
-use Rattle.poly_frag.specs.Frags.{numbered, plane_at}
-use Rattle.tree_pool.specs.Trees.{Tree, leaf, node, height_of, level_by, choose, value_of, IsPlaneOf}
+use Rattle.poly_frag.specs.Frags.{numbered}
+use Rattle.tree_pool.specs.Trees.{Tree, leaf, node, height_of, level_by, value_of, IsPlaneOf}
 use Rattle.tree_pool.proofs.Overs.{over_node}
 use Rattle.face_walk.specs.Works.{side_tree, IsTop}
 use Rattle.face_walk.proofs.Neighbours.{Side}

@@ -1,6 +1,6 @@
 -- The faces of a whole walk.
-use Rattle.std.proofs.Common.{◌≡◌, ◌<◌, ◌≤◌, ◌+◌, ℕ, suc, length, Bool, true, false, not, cond, List, [], ◌∷◌, map, Option, Some, None, All, refl, sym, ap, ap₂, subst, ◌∙◌, arith, true≢false}
-use Rattle.std.specs.Prelude.{sum_by, filter, nat_eq}
+use Rattle.std.proofs.Common.{◌≡◌, ◌<◌, ◌≤◌, ◌+◌, ℕ, suc, length, Bool, true, false, not, cond, List, [], ◌∷◌, map, Option, Some, None, refl, sym, ap, ap₂, ◌∙◌, arith}
+use Rattle.std.specs.Prelude.{sum_by, nat_eq}
 use Rattle.std.specs.Prelude.{IsPermutation}
 use Rattle.std.specs.List.Sorted.{IsNonDecreasingBy}
 use Rattle.std.proofs.lemmas.Bool.{eq-eqb}
@@ -11,16 +11,15 @@ use Rattle.plane_core.specs.declared.numbers.Plane.{Plane as BookPlane}
 use Rattle.plane_core.specs.declared.book.PlaneId.{PlaneId}
 use Rattle.plane_core.specs.Books.{AreDistinct, BeginsWithWalls}
 use Rattle.plane_cells.specs.declared.steps.Step.{Step}
-use Rattle.tree_pool.specs.declared.node.TreeId.{TreeId}
 use Rattle.tree_pool.specs.Trees.{Tree}
-use Rattle.tree_pool.specs.Pools.{Slots, IsLive, StandsFor, AreTrees}
+use Rattle.tree_pool.specs.Pools.{Slots}
 use Rattle.face_walk.specs.Points.{holds}
-use Rattle.face_walk.specs.Faces.{IsOfBook, IsTight, IsAloneOn, is_true_at, IsFace, outside_by, boundary_on, pieces_at, ShowBoundary, AreFacesOn, AreFacesOf}
+use Rattle.face_walk.specs.Faces.{IsOfBook, IsTight, is_true_at, IsFace, outside_by, boundary_on, pieces_at, AreFacesOn, AreFacesOf}
 use Rattle.spec_solid.specs.Planes.{front_of, back_of}
 use Rattle.poly_frag.specs.Frags.{plane_at}
 use Rattle.face_walk.specs.declared.faces.OutFace.{OutFace}
 use Rattle.face_walk.specs.declared.work.Visit.{Visit}
-use Rattle.face_walk.specs.Works.{IsFit, due, due_at, in_frag, seen, pending, is_sought, IsFaceOnPlane, IsWalked}
+use Rattle.face_walk.specs.Works.{IsFit, due, due_at, in_frag, seen, pending, IsWalked}
 use Rattle.face_walk.proofs.Opened.{IsWalk}
 
 -- ---- flags, by how often each side is shown

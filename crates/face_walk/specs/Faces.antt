@@ -1,5 +1,5 @@
 -- The boundary of a tree of planes, and the pieces that show it.
-use Rattle.std.specs.Prelude.{◌≡◌, ◌≢◌, ◌≤◌, ◌<◌, ℕ, ℤ, pos, negsuc, ◌*ℤ◌, ◌≤ℤ◌, Bool, true, false, List, [], ◌∷◌, length, map, filter, Option, Some, None, All}
+use Rattle.std.specs.Prelude.{◌≡◌, ◌≢◌, ◌≤◌, ◌<◌, ℕ, pos, negsuc, ◌*ℤ◌, ◌≤ℤ◌, Bool, true, false, List, [], ◌∷◌, length, map, filter, Option, Some, None, All}
 use Rattle.std.specs.List.Sorted.{IsNonDecreasingBy}
 use Rattle.spec_space.specs.declared.Point.{Point}
 use Rattle.spec_space.specs.Points.{IsPoint, value}
@@ -9,7 +9,6 @@ use Rattle.plane_core.specs.declared.book.PlaneId.{PlaneId}
 use Rattle.poly_frag.specs.Cubes.{IsInsideCube}
 use Rattle.poly_frag.specs.Frags.{plane_at, IsIn}
 use Rattle.poly_frag.specs.Cycles.{IsFragment}
-use Rattle.poly_frag.specs.declared.frag.Frag.{Frag}
 use Rattle.tree_pool.specs.Trees.{Tree, value_of, IsPlaneOf, IsOff}
 use Rattle.face_walk.specs.Points.{holds}
 use Rattle.face_walk.specs.declared.faces.OutFace.{OutFace}

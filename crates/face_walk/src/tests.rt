@@ -308,7 +308,17 @@ fn shows_the_step_of_an_l(rt: HostRuntime) -> Result<(), Fail> {
     Ok(())
 }
 
-/// The tree of what lies in front of each of the planes x = k / 4096, the last one looked at first.
+/// The number of the plane x = k / 4096, or 0 where the book is full.
+fn number(book: &mut PlaneBook, k: u16) -> Result<PlaneId, AllocError> {
+    if book.count() < 10_000
+        && let Some(plane) = Plane::reduced(4096, 0, 0, i128::from(k))
+    {
+        return book.add(plane);
+    }
+    Ok(PlaneId { k: 0 })
+}
+
+/// The tree of what lies in front of each of the planes x = 1 / 4096, 2 / 4096 and so on, the last one looked at first.
 fn chain(book: &mut PlaneBook, pool: &mut Pool, count: u16) -> Result<TreeId, AllocError>
     ensures live { IfOk result (IsLive pool.new) }
     ensures still_live { (id : TreeId) → IsLive pool.old id → IsLive pool.new id }
@@ -316,12 +326,8 @@ fn chain(book: &mut PlaneBook, pool: &mut Pool, count: u16) -> Result<TreeId, Al
     let no = pool.leaf(false);
     let mut tree = pool.leaf(true);
     for k in 1..=count {
-        if let Some(plane) = Plane::reduced(4096, 0, 0, i128::from(k))
-            && book.count() < 10_000
-        {
-            let id = book.add(plane)?;
-            tree = pool.node(id, tree, no)?;
-        }
+        let plane = number(book, k)?;
+        tree = pool.node(plane, tree, no)?;
     }
     Ok(tree)
 }

@@ -1,6 +1,6 @@
-use Rattle.std.proofs.Common.{◌≡◌, ◌≤◌, ◌<◌, ℕ, length, arith, subst}
+use Rattle.std.proofs.Common.{◌≡◌, ◌≤◌, ◌<◌, ℕ, length, arith}
 use Rattle.std.proofs.lemmas.Result.{on_ok_weaker}
-use Rattle.face_walk.proofs.Sheets.{leaf_turn, divided_turn, dropped_turn}
+use Rattle.face_walk.proofs.Sheets.{leaf_turn, dropped_turn}
 use Rattle.face_walk.proofs.lower.turn.Goals as goal
 
 past : (k n m : ℕ) → m ≡ n → m ≤ k → k < n → ⊥

@@ -1,4 +1,4 @@
-use Rattle.std.proofs.Common.{Vec, Some}
+use Rattle.std.proofs.Common.{Some}
 use Rattle.std.proofs.lemmas.Result.{IfOk-weaker}
 use Rattle.tree_pool.specs.Trees.{Tree}
 use Rattle.tree_pool.specs.Pools.{StandsFor}
