@@ -1,5 +1,5 @@
 use Rattle.std.proofs.Common.{◌∙◌}
-use Rattle.ifc_elem.proofs.Noted.{listed_simple}
+use Rattle.ifc_elem.proofs.Voided.{listed_simple}
 use Rattle.ifc_elem.proofs.bodies.read_body.Goals as goal
 
 pub opening_solids-requires-clause-simple : goal.opening_solids-requires-clause-simple
