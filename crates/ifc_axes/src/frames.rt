@@ -25,12 +25,7 @@ pub fn coordinates(point: &Vector) -> [i64; 3]
 }
 
 /// The frame of axes by their parts.
-fn frame(
-    at: u64,
-    place: &Vector,
-    axis: Option<Dir>,
-    ref_dir: Option<Dir>,
-) -> Result<Frame, Refusal>
+fn frame(at: u64, place: &Vector, axis: Option<Dir>, ref_dir: Option<Dir>) -> Result<Frame, Refusal>
     requires { IsWithin (10 ^ 16) place.now }
     ensures { result ≡ placed at (frame_of_axes place.now axis ref_dir) }
 {
@@ -71,12 +66,7 @@ pub fn axes(table: &Table<'_>, g: &GeomIn, at: u64) -> Result<Frame, Refusal>
 }
 
 /// The frame of the axes that a wanted attribute names.
-pub fn named_axes(
-    table: &Table<'_>,
-    g: &GeomIn,
-    at: u64,
-    position: usize,
-) -> Result<Frame, Refusal>
+pub fn named_axes(table: &Table<'_>, g: &GeomIn, at: u64, position: usize) -> Result<Frame, Refusal>
     requires simple { IsSimple table.now at }
     requires counted { 1 ≤ position }
     ensures { result ≡ named_axes (file_of table.now g.now) at position }

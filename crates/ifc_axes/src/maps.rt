@@ -88,6 +88,7 @@ pub fn operator(table: &Table<'_>, g: &GeomIn, at: u64) -> Result<Map, Refusal>
     let scale2 = further_scale(table, at, 6)?;
     let scale3 = further_scale(table, at, 7)?;
     let scales = scales(scale, scale2, scale3);
-    Map::of_operator(coordinates(&origin), [first, second, third], scales)
-        .map_err(|fault| refusal_at(at, fault))
+    Map::of_operator(coordinates(&origin), [first, second, third], scales).map_err(
+        |fault| refusal_at(at, fault),
+    )
 }

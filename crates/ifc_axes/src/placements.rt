@@ -7,7 +7,7 @@ ghost use Rattle.spec_geometry.specs.Axes.{named_axes};
 ghost use Rattle.spec_geometry.specs.Placements.{placements, link, chain, world_frame, opening_frame};
 ghost use Rattle.ifc_numbers.specs.Measures.{file_of};
 ghost use Rattle.ifc_numbers.specs.Answers.{ReadsList};
-ghost use Rattle.ifc_axes.specs.Turned.{ReadsTurned};
+ghost use Rattle.ifc_axes.specs.Turned.{ReadsTurned, placement_read};
 
 use crate::frames::named_axes;
 use entity_reader::instance_of_kinds;
@@ -17,6 +17,16 @@ use ix_place::Frame;
 use spec_refusal::Refusal;
 use std::alloc::{AllocError, Global};
 use step_table::Table;
+
+/// The placement of a number, and the number of the one to which it is relative, if that is set.
+fn placement_at(table: &Table<'_>, number: u64) -> Result<(u64, Option<u64>), Refusal>
+    ensures value { result ≡ placement_read table.now number }
+    ensures simple { IfOk result (λ read. IsSimple table.now read.0) }
+{
+    let placement = instance_of_kinds(table, &[Kind::LocalPlacement], number)?;
+    let parent = reference_if_set(table, placement, 1)?;
+    Ok((placement, parent))
+}
 
 /// The placements of a product, from its own to the root.
 fn placements(alloc: Global, table: &Table<'_>, product: u64) -> Result<Vec<u64>, ItemFault>
@@ -30,12 +40,15 @@ fn placements(alloc: Global, table: &Table<'_>, product: u64) -> Result<Vec<u64>
         if found.len() == 64 {
             return Err(ItemFault::Refused(Refusal::TooDeep { at: number }));
         }
-        let placement = instance_of_kinds(table, &[Kind::LocalPlacement], number)?;
-        match found.push(placement) {
+        let read = match placement_at(table, number) {
+            Ok(read) => read,
+            Err(refusal) => return Err(ItemFault::Refused(refusal)),
+        };
+        match found.push(read.0) {
             Ok(()) => {}
             Err(error) => return Err(AllocError::from(error).into()),
         }
-        parent = reference_if_set(table, placement, 1)?;
+        parent = read.1;
     }
     Ok(found)
 }
@@ -91,7 +104,9 @@ pub fn world_frame(chain: &[(u64, Frame)]) -> Result<Frame, Refusal>
     };
     let mut frame = first.1;
     for link in rest {
-        frame = frame.then(&link.1).map_err(|fault| refusal_at(link.0, fault))?;
+        frame = frame
+            .then(&link.1)
+            .map_err(|fault| refusal_at(link.0, fault))?;
     }
     Ok(frame)
 }

@@ -1,7 +1,7 @@
 -- Relations that are listed by their elements.
 use Rattle.std.proofs.Common.{◌≡◌, ℕ, Bool, true, false, cond, if◌then◌else◌, ◌==◌, nat_eq, List, [], ◌∷◌, ◌++◌, filter, map, Vec, Option, Some, None, refl, sym, ◌∙◌, ap, subst}
 use Rattle.std.proofs.lemmas.Bool.{eqb-true}
-use Rattle.std.proofs.lemmas.List.{append-nil, append-assoc}
+use Rattle.std.proofs.lemmas.List.{append-nil, append_assoc}
 use Rattle.spec_step.specs.declared.tree.Instance.{Instance}
 use Rattle.spec_table.specs.Sections.{DataSection}
 use Rattle.spec_entity.specs.Elements.{voids}
@@ -28,10 +28,9 @@ noted before between now element relation found out put items n =
     here_or_there before now element relation found n (nat_eq element n) (eqb-true element n)
     (put n ∙ ap (cond (nat_eq element n) (Some found)) (out n) ∙ taken_out (nat_eq element n) None (before n) (Some found)) items
 
-
 pub next_noted : (b : Bool) (relation : ℕ) (before now own rest all : List ℕ) → own ≡ (if b then relation ∷ [] else []) → now ≡ before ++ own
     → all ≡ before ++ (if b then relation ∷ rest else rest) → all ≡ now ++ rest
 next_noted true relation before now own rest all mine grown is =
-    is ∙ sym (append-assoc before (relation ∷ []) rest) ∙ ap (λ o. (before ++ o) ++ rest) (sym mine) ∙ ap (λ l. l ++ rest) (sym grown)
+    is ∙ sym (append_assoc before (relation ∷ []) rest) ∙ ap (λ o. (before ++ o) ++ rest) (sym mine) ∙ ap (λ l. l ++ rest) (sym grown)
 next_noted false relation before now own rest all mine grown is =
     is ∙ ap (λ l. l ++ rest) (sym (append-nil before)) ∙ ap (λ o. (before ++ o) ++ rest) (sym mine) ∙ ap (λ l. l ++ rest) (sym grown)

@@ -50,12 +50,7 @@ pub fn length(
 }
 
 /// A wanted length above 0, in nanometres; it may round to 0.
-pub fn positive(
-    table: &Table<'_>,
-    g: &GeomIn,
-    at: u64,
-    position: usize,
-) -> Result<i128, Refusal>
+pub fn positive(table: &Table<'_>, g: &GeomIn, at: u64, position: usize) -> Result<i128, Refusal>
     requires simple { IsSimple table.now at }
     requires counted { 1 ≤ position }
     ensures value { result ≡ positive (file_of table.now g.now) at position }
@@ -82,11 +77,7 @@ pub fn zero(table: &Table<'_>, at: u64, position: usize) -> Result<(), Refusal>
 }
 
 /// A number in units of 10^-12, if it is set.
-pub fn number_if_set(
-    table: &Table<'_>,
-    at: u64,
-    position: usize,
-) -> Result<Option<i128>, Refusal>
+pub fn number_if_set(table: &Table<'_>, at: u64, position: usize) -> Result<Option<i128>, Refusal>
     requires simple { IsSimple table.now at }
     requires counted { 1 ≤ position }
     ensures { result ≡ number_if_set table.now at position }
@@ -145,11 +136,7 @@ pub fn boolean(table: &Table<'_>, at: u64, position: usize) -> Result<bool, Refu
 }
 
 /// The instance that an attribute names, if it is set.
-pub fn reference_if_set(
-    table: &Table<'_>,
-    at: u64,
-    position: usize,
-) -> Result<Option<u64>, Refusal>
+pub fn reference_if_set(table: &Table<'_>, at: u64, position: usize) -> Result<Option<u64>, Refusal>
     requires simple { IsSimple table.now at }
     requires counted { 1 ≤ position }
     ensures { result ≡ as_read (attr_ref table.now at position) }

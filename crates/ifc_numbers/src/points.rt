@@ -135,11 +135,7 @@ pub fn plane_direction(table: &Table<'_>, at: u64) -> Result<Dir, Refusal>
 }
 
 /// The direction in space that an attribute names, if it is set.
-pub fn if_direction(
-    table: &Table<'_>,
-    at: u64,
-    position: usize,
-) -> Result<Option<Dir>, Refusal>
+pub fn if_direction(table: &Table<'_>, at: u64, position: usize) -> Result<Option<Dir>, Refusal>
     requires simple { IsSimple table.now at }
     requires counted { 1 ≤ position }
     ensures { result ≡ points.if_direction points.direction table.now at position }

@@ -10,5 +10,5 @@ abbrev pub invariant-loop-p : goal.invariant-loop-p
 invariant-loop-p l = record {
   few : l.reached ≤ 4096;
   rest : each_counted (item (file_of l.table l.g) l.at l.map) l.members l.count
-    ≡ next (each_counted (item (file_of l.table l.g) l.at l.map) (drop l.p-index l.members) l.reached) (λ more. Ok (map item_of l.items.items ++ more.0, more.1));
+      ≡ next (each_counted (item (file_of l.table l.g) l.at l.map) (drop l.p-index l.members) l.reached) (λ more. Ok (map item_of l.items.items ++ more.0, more.1));
 }

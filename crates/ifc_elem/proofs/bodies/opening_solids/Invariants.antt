@@ -9,5 +9,5 @@ abbrev pub invariant-loop-relation : goal.invariant-loop-relation
 invariant-loop-relation l = record {
   few : l.reached ≤ 4096;
   rest : openings (file_of l.table l.g) l.element l.relations l.count
-    ≡ next (openings (file_of l.table l.g) l.element (drop l.relation-index l.relations) l.reached) (λ more. Ok (map item_of l.found.items ++ more.0, more.1));
+      ≡ next (openings (file_of l.table l.g) l.element (drop l.relation-index l.relations) l.reached) (λ more. Ok (map item_of l.found.items ++ more.0, more.1));
 }
