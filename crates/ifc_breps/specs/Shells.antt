@@ -9,6 +9,10 @@ use Rattle.spec_geometry.specs.Breps.{each_counted, member_shell, flat}
 use Rattle.ifc_numbers.specs.declared.faults.ItemFault.{ItemFault}
 use Rattle.ifc_numbers.specs.Answers.{ReadsAs}
 
+-- what stands before, and then what is read
+abbrev pub behind : {T : Type 0} → List T → Counted (List T) → Counted (List T)
+behind before read = next read (λ more. Ok (before ++ more.0, more.1))
+
 -- faces that stand before, and then those of the shells that the members of the list of voids name
 abbrev pub with_shells : File → ℕ → List Face → List Param → ℕ → Counted (List Face)
 with_shells file n before ps count =

@@ -1,16 +1,20 @@
 ghost use Rattle.std.specs.Prelude.{◌≡◌, ◌≤◌, ◌^◌, length, IfOk};
 ghost use Rattle.spec_table.specs.Sections.{IsSimple};
+ghost use Rattle.spec_entity.specs.Reads.{members};
+ghost use Rattle.entity_reader.specs.Lent.{plain_read};
 ghost use Rattle.spec_geometry.specs.Breps.{each_counted, member_bound, face, member_face};
-ghost use Rattle.ix_profile.specs.Outlines.{AreLong, AreWithin};
+ghost use Rattle.ix_profile.specs.Outlines.{AreLong, AreWithin, IsOutline};
+ghost use Rattle.solid_expr.specs.Sides.{face_at};
 ghost use Rattle.ifc_numbers.specs.Measures.{file_of};
 ghost use Rattle.ifc_numbers.specs.Answers.{ReadsAs};
 
 use crate::bounds::member_bound;
 use entity_reader::{instance_of_kinds, member_instance, members};
-use ifc_axes::{GeomIn, ItemFault};
 use ifc_kinds::Kind;
+use ifc_numbers::{GeomIn, ItemFault};
 use ix_profile::Loops;
 use solid_expr::Face;
+use spec_refusal::Refusal;
 use spec_step::Param;
 use std::alloc::Global;
 use step_table::Table;
@@ -41,6 +45,24 @@ fn bounds(
     Ok((loops, reached))
 }
 
+/// The members of a wanted list, of which there is one or more.
+fn some_members<'t>(table: &'t Table<'_>, at: u64, position: usize) -> Result<&'t [Param], Refusal>
+    requires simple { IsSimple table.now at }
+    requires counted { 1 ≤ position }
+    ensures value { plain_read result ≡ members table.now at position }
+    ensures some { IfOk result (λ ps. 1 ≤ length ps.now) }
+{
+    members(table, at, position)
+}
+
+/// A face by its number and its loops.
+fn face_of(at: u64, loops: Loops) -> Face
+    requires { IsOutline (10 ^ 16) loops }
+    ensures { result ≡ face_at at loops }
+{
+    Face { at, loops }
+}
+
 /// A face (IfcFace), and the count with its triangles.
 fn face(
     alloc: Global,
@@ -54,9 +76,9 @@ fn face(
     ensures value { ReadsAs (λ read. read) result (face (file_of table.now g.now) at count) }
     ensures few { IfOk result (λ read. read.1 ≤ 4096) }
 {
-    let members = members(table, at, 1)?;
-    let (loops, reached) = bounds(alloc, table, g, at, members, count)?;
-    Ok((Face { at, loops }, reached))
+    let listed = some_members(table, at, 1)?;
+    let (loops, reached) = bounds(alloc, table, g, at, listed, count)?;
+    Ok((face_of(at, loops), reached))
 }
 
 /// The face that a member of the list of a shell names.
@@ -73,5 +95,11 @@ pub fn member_face(
     ensures few { IfOk result (λ read. read.1 ≤ 4096) }
 {
     let member = member_instance(table, shell, 1, p)?;
-    face(alloc, table, g, instance_of_kinds(table, &[Kind::Face], member)?, count)
+    face(
+        alloc,
+        table,
+        g,
+        instance_of_kinds(table, &[Kind::Face], member)?,
+        count,
+    )
 }

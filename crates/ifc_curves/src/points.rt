@@ -9,6 +9,16 @@ use spec_space::Vector;
 use std::alloc::{AllocError, Global};
 use std::marker::Model;
 
+/// The loop of points, if three of them are different.
+fn loop_of(points: Vec<Vector>) -> Option<Loop>
+    requires { All (IsWithin (10 ^ 16)) points.items }
+    ensures value { result ≡ (if has_three (open_loop points.items) then Some (open_loop points.items) else None) }
+    ensures long { IfSome result (λ l. 3 ≤ length l) }
+    ensures within { IfSome result (λ l. All (IsWithin (10 ^ 16)) l) }
+{
+    Loop::of_curve(points)
+}
+
 /// Points that are read, in nanometres; no coordinate has a size above 10^16. Contracts see them as the list of the points.
 #[derive(Debug, Drop)]
 pub struct Points {
@@ -93,7 +103,7 @@ impl Points {
         ensures long { IfOk result (λ l. 3 ≤ length l) }
         ensures within { IfOk result (λ l. All (IsWithin (10 ^ 16)) l) }
     {
-        match Loop::of_curve(self.points) {
+        match loop_of(self.points) {
             Some(found) => Ok(found),
             None => Err(Refusal::BadAttribute { at, position: 1 }),
         }

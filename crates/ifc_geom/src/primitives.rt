@@ -1,4 +1,4 @@
-ghost use Rattle.std.specs.Prelude.{◌≡◌, ◌≤◌, ◌^◌, ◌*◌, ◌*ℤ◌, unsigned_abs, IfOk};
+ghost use Rattle.std.specs.Prelude.{◌≡◌, ◌≤◌, ◌^◌, ◌-◌, ◌*◌, ◌*ℤ◌, unsigned_abs, IfOk};
 ghost use Rattle.spec_num.specs.Rounding.{round_of};
 ghost use Rattle.spec_place.specs.Vectors.{one, IsWithin};
 ghost use Rattle.spec_table.specs.Sections.{IsSimple};
@@ -32,7 +32,7 @@ fn part_over(depth: i128, part: i128) -> i128
     requires depth { unsigned_abs depth ≤ 10 ^ 16 }
     requires part { unsigned_abs part ≤ 10 ^ 9 }
     ensures value { result ≡ round_of (depth *ℤ part) one }
-    ensures within { unsigned_abs result ≤ 10 ^ 16 }
+    ensures within { unsigned_abs result ≤ 2 ^ 61 - 1 }
 {
     round_div(depth * part, ONE)
 }
@@ -41,7 +41,7 @@ fn part_over(depth: i128, part: i128) -> i128
 fn sweep(along: &Dir, depth: i128) -> Vector
     requires { unsigned_abs depth ≤ 10 ^ 16 }
     ensures value { result ≡ sweep along.now depth }
-    ensures within { IsWithin (10 ^ 16) result }
+    ensures within { IsWithin (2 ^ 61 - 1) result }
 {
     Vector {
         x: part_over(depth, along.v.x),
@@ -99,7 +99,7 @@ pub fn extruded_area_solid(
 fn sizes(table: &Table<'_>, g: &GeomIn, at: u64) -> Result<Vector, Refusal>
     requires { IsSimple table.now at }
     ensures value { result ≡ sizes (file_of table.now g.now) at }
-    ensures within { IfOk result (IsWithin (10 ^ 16)) }
+    ensures within { IfOk result (IsWithin (2 ^ 61 - 1)) }
 {
     Ok(Vector {
         x: positive(table, g, at, 2)?,

@@ -1,11 +1,11 @@
-ghost use Rattle.std.specs.Prelude.{◌≡◌, ◌≤◌, ◌^◌, ◌*◌, ◌++◌, length, All, IfOk, Ok};
+ghost use Rattle.std.specs.Prelude.{◌≡◌, ◌≤◌, ◌^◌, ◌*◌, length, All, IfOk};
 ghost use Rattle.spec_place.specs.Vectors.{IsWithin};
 ghost use Rattle.spec_table.specs.Sections.{IsSimple};
-ghost use Rattle.spec_refusal.specs.Reads.{next};
-ghost use Rattle.spec_geometry.specs.Profiles.{inner_curve, inner_curves, closed_profile, profile_with_voids};
+ghost use Rattle.spec_geometry.specs.Profiles.{inner_curve, closed_profile, profile_with_voids};
 ghost use Rattle.ix_profile.specs.Outlines.{IsOutline};
 ghost use Rattle.ifc_numbers.specs.Measures.{file_of};
 ghost use Rattle.ifc_numbers.specs.Answers.{ReadsAs};
+ghost use Rattle.ifc_profiles.specs.Voids.{with_inner};
 
 use entity_reader::{instance_of_kinds, member_instance, members};
 use ifc_axes::{GeomIn, ItemFault};
@@ -31,7 +31,12 @@ fn inner_curve(
     ensures few { IfOk result (λ read. read.1 ≤ 4096) }
 {
     let number = member_instance(table, at, 4, p)?;
-    let inner = curve(alloc, table, g, instance_of_kinds(table, &CURVE_KINDS, number)?)?;
+    let inner = curve(
+        alloc,
+        table,
+        g,
+        instance_of_kinds(table, &CURVE_KINDS, number)?,
+    )?;
     let reached = count_loop(count, &inner)?;
     Ok((inner, reached))
 }
@@ -48,7 +53,7 @@ fn with_voids(
 ) -> Result<(Loops, u128), ItemFault>
     requires outline { IsOutline (10 ^ 16) outer }
     requires count { count ≤ 4096 }
-    ensures value { ReadsAs (λ read. read) result (next (inner_curves (file_of table.now g.now) at members.now count) (λ inner. Ok (outer ++ inner.0, inner.1))) }
+    ensures value { ReadsAs (λ read. read) result (with_inner (file_of table.now g.now) at outer members.now count) }
     ensures outline { IfOk result (λ read. IsOutline (10 ^ 16) read.0) }
     ensures few { IfOk result (λ read. read.1 ≤ 4096) }
 {

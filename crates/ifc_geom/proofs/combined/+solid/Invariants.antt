@@ -1,9 +1,9 @@
-use Rattle.std.proofs.Common.{◌≡◌, ◌≤◌, ◌+◌, ◌*◌, ◌++◌, drop, map, Ok}
-use Rattle.spec_refusal.specs.Reads.{next}
+use Rattle.std.proofs.Common.{◌≡◌, ◌≤◌, ◌+◌, ◌*◌, drop, map}
 use Rattle.spec_geometry.specs.Breps.{each_counted}
 use Rattle.spec_geometry.specs.Solids.{solid, member_solid}
 use Rattle.solid_expr.specs.Views.{shape_of}
 use Rattle.ifc_numbers.specs.Measures.{file_of}
+use Rattle.ifc_breps.specs.Shells.{behind}
 use Rattle.ifc_geom.proofs.combined.«+solid».Given as goal
 
 abbrev pub decreases-solid : goal.decreases-solid
@@ -28,6 +28,5 @@ abbrev pub invariant-member_solids-loop-p : goal.invariant-member_solids-loop-p
 invariant-member_solids-loop-p l = record {
   few : l.reached ≤ 4096;
   rest : each_counted (member_solid (file_of l.table l.g) (solid l.deeper (file_of l.table l.g)) l.representation l.map) l.members l.count
-    ≡ next (each_counted (member_solid (file_of l.table l.g) (solid l.deeper (file_of l.table l.g)) l.representation l.map) (drop l.p-index l.members) l.reached)
-    (λ more. Ok (map shape_of l.parts ++ more.0, more.1));
+      ≡ behind (map shape_of l.parts) (each_counted (member_solid (file_of l.table l.g) (solid l.deeper (file_of l.table l.g)) l.representation l.map) (drop l.p-index l.members) l.reached);
 }
