@@ -9,9 +9,9 @@ ghost use Rattle.ifc_numbers.specs.Measures.{file_of};
 ghost use Rattle.ifc_numbers.specs.Answers.{ReadsAs};
 
 use entity_reader::{instance_of_kinds, member_instance, members, named_instance};
-use ifc_numbers::{GeomIn, ItemFault, point};
 use ifc_curves::{Points, count_with};
 use ifc_kinds::Kind;
+use ifc_numbers::{GeomIn, ItemFault, point};
 use ix_profile::Loop;
 use spec_refusal::Refusal;
 use spec_space::Vector;
@@ -25,7 +25,11 @@ fn member_point(table: &Table<'_>, g: &GeomIn, at: u64, p: &Param) -> Result<Vec
     ensures within { IfOk result (IsWithin (10 ^ 16)) }
 {
     let number = member_instance(table, at, 1, p)?;
-    point(table, g, instance_of_kinds(table, &[Kind::CartesianPoint], number)?)
+    point(
+        table,
+        g,
+        instance_of_kinds(table, &[Kind::CartesianPoint], number)?,
+    )
 }
 
 /// The points that the members of the list of `at` name.

@@ -10,8 +10,8 @@ ghost use Rattle.ifc_numbers.specs.Answers.{ReadsAs};
 
 use crate::bounds::member_bound;
 use entity_reader::{instance_of_kinds, member_instance, members};
-use ifc_numbers::{GeomIn, ItemFault};
 use ifc_kinds::Kind;
+use ifc_numbers::{GeomIn, ItemFault};
 use ix_profile::Loops;
 use solid_expr::Face;
 use spec_refusal::Refusal;
@@ -46,11 +46,7 @@ fn bounds(
 }
 
 /// The members of a wanted list, of which there is one or more.
-fn some_members<'t>(
-    table: &'t Table<'_>,
-    at: u64,
-    position: usize,
-) -> Result<&'t [Param], Refusal>
+fn some_members<'t>(table: &'t Table<'_>, at: u64, position: usize) -> Result<&'t [Param], Refusal>
     requires simple { IsSimple table.now at }
     requires counted { 1 ≤ position }
     ensures value { plain_read result ≡ members table.now at position }
@@ -99,5 +95,11 @@ pub fn member_face(
     ensures few { IfOk result (λ read. read.1 ≤ 4096) }
 {
     let member = member_instance(table, shell, 1, p)?;
-    face(alloc, table, g, instance_of_kinds(table, &[Kind::Face], member)?, count)
+    face(
+        alloc,
+        table,
+        g,
+        instance_of_kinds(table, &[Kind::Face], member)?,
+        count,
+    )
 }

@@ -6,8 +6,8 @@ ghost use Rattle.ifc_breps.specs.Shells.{with_shells, ReadsFaces};
 
 use crate::faces::member_face;
 use entity_reader::{has_kind, instance_of_kinds, member_instance, members, named_instance};
-use ifc_numbers::{GeomIn, ItemFault};
 use ifc_kinds::Kind;
+use ifc_numbers::{GeomIn, ItemFault};
 use solid_expr::Face;
 use spec_step::Param;
 use std::alloc::{AllocError, Global};

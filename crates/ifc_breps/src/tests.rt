@@ -1,7 +1,7 @@
 use super::*;
 use entity_reader::has_kind;
-use ifc_numbers::GeomIn;
 use ifc_kinds::Kind;
+use ifc_numbers::GeomIn;
 use ix_place::{LengthUnit, Prefix};
 use solid_expr::Face;
 use std::alloc::{AllocError, Global};
@@ -50,7 +50,9 @@ fn faces_text(alloc: Global, faces: &[Face]) -> Result<String, AllocError> {
 fn brep_text(alloc: Global, table: &Table<'_>) -> Result<String, AllocError> {
     let unit = LengthUnit::of_metre(Some(Prefix::Milli));
     let g = GeomIn { unit, step: 1000 };
-    if !(has_kind(table, 13, Kind::FacetedBrepWithVoids) || has_kind(table, 13, Kind::FacetedBrep)) {
+    if !(has_kind(table, 13, Kind::FacetedBrepWithVoids)
+        || has_kind(table, 13, Kind::FacetedBrep))
+    {
         return String::from_str(alloc, "no brep");
     }
     match brep_faces(alloc, table, &g, 13, 100) {
@@ -80,11 +82,7 @@ fn reads_breps(rt: HostRuntime) -> Result<(), Fail> {
             "(#1,#2,#1)",
             "Refused(BadAttribute { at: 5, position: 1 })",
         ),
-        (
-            "(#12,#12)",
-            "(#12,#10)",
-            "Refused(Unsupported { at: 10 })",
-        ),
+        ("(#12,#12)", "(#12,#10)", "Refused(Unsupported { at: 10 })"),
         (
             "(#12,#12)",
             "()",

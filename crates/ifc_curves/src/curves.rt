@@ -27,17 +27,16 @@ use step_table::{Table, param_list};
 pub const CURVE_KINDS: [Kind; 2] = [Kind::Polyline, Kind::IndexedPolyCurve];
 
 /// The point in the plane that a member of the list of `at` names.
-fn member_plane_point(
-    table: &Table<'_>,
-    g: &GeomIn,
-    at: u64,
-    p: &Param,
-) -> Result<Vector, Refusal>
+fn member_plane_point(table: &Table<'_>, g: &GeomIn, at: u64, p: &Param) -> Result<Vector, Refusal>
     ensures value { result ≡ member_point (planes.plane_point (file_of table.now g.now)) table.now at p.now }
     ensures within { IfOk result (IsWithin (10 ^ 16)) }
 {
     let number = member_instance(table, at, 1, p)?;
-    plane_point(table, g, instance_of_kinds(table, &[Kind::CartesianPoint], number)?)
+    plane_point(
+        table,
+        g,
+        instance_of_kinds(table, &[Kind::CartesianPoint], number)?,
+    )
 }
 
 /// The points in the plane that the members of the list of `at` name.
@@ -99,12 +98,7 @@ fn pairs(
 }
 
 /// The points of a list (IfcCartesianPointList2D).
-fn point_list(
-    alloc: Global,
-    table: &Table<'_>,
-    g: &GeomIn,
-    at: u64,
-) -> Result<Points, ItemFault>
+fn point_list(alloc: Global, table: &Table<'_>, g: &GeomIn, at: u64) -> Result<Points, ItemFault>
     requires { IsSimple table.now at }
     ensures { ReadsAs (λ points. points) result (point_list (file_of table.now g.now) at) }
 {
@@ -155,12 +149,7 @@ fn points_by_segments(
 }
 
 /// The points of a curve of segments (IfcIndexedPolyCurve).
-fn indexed_curve(
-    alloc: Global,
-    table: &Table<'_>,
-    g: &GeomIn,
-    at: u64,
-) -> Result<Points, ItemFault>
+fn indexed_curve(alloc: Global, table: &Table<'_>, g: &GeomIn, at: u64) -> Result<Points, ItemFault>
     requires { IsSimple table.now at }
     ensures { ReadsAs (λ points. points) result (indexed_curve (file_of table.now g.now) at) }
 {
@@ -170,12 +159,7 @@ fn indexed_curve(
 }
 
 /// The points of a curve.
-fn curve_points(
-    alloc: Global,
-    table: &Table<'_>,
-    g: &GeomIn,
-    at: u64,
-) -> Result<Points, ItemFault>
+fn curve_points(alloc: Global, table: &Table<'_>, g: &GeomIn, at: u64) -> Result<Points, ItemFault>
     requires { IsSimple table.now at }
     ensures { ReadsAs (λ points. points) result (curve_points (file_of table.now g.now) at) }
 {

@@ -53,7 +53,13 @@ fn index(table: &Table<'_>, at: u64, count: usize, p: &Param) -> Result<usize, R
 }
 
 /// The indices of a list.
-fn indices(alloc: Global, table: &Table<'_>, at: u64, count: usize, members: &[Param]) -> Result<Vec<usize>, ItemFault>
+fn indices(
+    alloc: Global,
+    table: &Table<'_>,
+    at: u64,
+    count: usize,
+    members: &[Param],
+) -> Result<Vec<usize>, ItemFault>
     requires { count ≤ 10 ^ 9 }
     ensures { ReadsList result (each (index table.now at count) members.now) }
 {
@@ -72,7 +78,13 @@ fn push(indices: &mut Vec<usize>, index: usize) -> Result<(), AllocError>
 }
 
 /// The indices of an IfcLineIndex, of which there must be two.
-fn line_index(alloc: Global, table: &Table<'_>, at: u64, count: usize, p: &Param) -> Result<Vec<usize>, ItemFault>
+fn line_index(
+    alloc: Global,
+    table: &Table<'_>,
+    at: u64,
+    count: usize,
+    p: &Param,
+) -> Result<Vec<usize>, ItemFault>
     requires { count ≤ 10 ^ 9 }
     ensures { ReadsList result (line_index table.now at count p.now) }
 {
@@ -105,13 +117,26 @@ fn segment_named(
 }
 
 /// The indices of a segment.
-fn segment(alloc: Global, table: &Table<'_>, at: u64, count: usize, p: &Param) -> Result<Vec<usize>, ItemFault>
+fn segment(
+    alloc: Global,
+    table: &Table<'_>,
+    at: u64,
+    count: usize,
+    p: &Param,
+) -> Result<Vec<usize>, ItemFault>
     requires { count ≤ 10 ^ 9 }
     ensures { ReadsList result (segment table.now at count p.now) }
 {
     match p {
         Param::Typed(keyword, held) => {
-            segment_named(alloc, table, at, count, bytes_at(table.source(), *keyword), held.get())
+            segment_named(
+                alloc,
+                table,
+                at,
+                count,
+                bytes_at(table.source(), *keyword),
+                held.get(),
+            )
         }
         _ => Err(Refusal::BadAttribute { at, position: 2 }.into()),
     }
@@ -170,7 +195,13 @@ fn append(indices: &mut Vec<usize>, more: &[usize]) -> Result<(), AllocError>
 }
 
 /// The indices of segments, counted from 1: each begins where the one before it ended.
-pub fn segments(alloc: Global, table: &Table<'_>, at: u64, count: usize, members: &[Param]) -> Result<Vec<usize>, ItemFault>
+pub fn segments(
+    alloc: Global,
+    table: &Table<'_>,
+    at: u64,
+    count: usize,
+    members: &[Param],
+) -> Result<Vec<usize>, ItemFault>
     requires { count ≤ 10 ^ 9 }
     ensures { ReadsList result (segments_after table.now at count [] members.now) }
 {

@@ -1,5 +1,5 @@
 -- An element that is read has few triangles.
-use Rattle.std.proofs.Common.{◌≡◌, ℕ, ◌≤◌, Option, Some, None, Result, Ok, Err, IfOk, IfSome}
+use Rattle.std.proofs.Common.{ℕ, ◌≤◌, Option, Some, None, Result, Ok, Err, IfOk, IfSome}
 use Rattle.spec_shape.specs.Shapes.{element_count}
 use Rattle.spec_geometry.specs.Files.{File}
 use Rattle.spec_geometry.specs.Elements.{element_body}

@@ -1,2 +1,2 @@
-mod Noted
+mod Voided
 mod Few

@@ -1,12 +1,12 @@
-ghost use Rattle.std.specs.Prelude.{◌≡◌, ℕ, ◌++◌, ◌∷◌, [], ◌==◌, nat_eq, All, OnOk, IfOk, if◌then◌else◌};
+ghost use Rattle.std.specs.Prelude.{◌≡◌, ℕ, ◌++◌, ◌∷◌, [], ◌==◌, nat_eq, filter, map, OnOk, IfOk, if◌then◌else◌};
 ghost use Rattle.indexmap.specs.IndexMap.{get};
-ghost use Rattle.spec_table.specs.Sections.{IsSimple};
 ghost use Rattle.spec_entity.specs.Elements.{voids};
 ghost use Rattle.ifc_elem.specs.Voiding.{listed, is_number, relations_of, IsIndexOf};
 
 use entity_reader::has_kind;
 use ifc_kinds::Kind;
 use indexmap::IndexMap;
+use spec_step::Instance;
 use std::alloc::{AllocError, Global};
 use step_table::Table;
 
@@ -44,6 +44,23 @@ fn note(
     Ok(())
 }
 
+/// The relations among some instances, by the numbers of their elements.
+fn listed_among(
+    alloc: Global,
+    table: &Table<'_>,
+    instances: &[Instance],
+) -> Result<IndexMap<u64, Vec<u64>>, AllocError>
+    ensures { IfOk result (λ relations. (n : ℕ) → listed (get nat_eq relations n) ≡ filter (voids table.now n) (map (λ i. i.number) instances.now)) }
+{
+    let mut relations = IndexMap::new(alloc);
+    for instance in instances {
+        if let Some(element) = voided(table, instance.number) {
+            note(alloc, &mut relations, element, instance.number)?;
+        }
+    }
+    Ok(relations)
+}
+
 impl Openings {
     /// The relations of a file, in one pass over its instances.
     ///
@@ -53,12 +70,7 @@ impl Openings {
     pub fn of(alloc: Global, table: &Table<'_>) -> Result<Openings, AllocError>
         ensures { IfOk result (λ openings. IsIndexOf openings table.now) }
     {
-        let mut relations = IndexMap::new(alloc);
-        for instance in table.instances() {
-            if let Some(element) = voided(table, instance.number) {
-                note(alloc, &mut relations, element, instance.number)?;
-            }
-        }
+        let relations = listed_among(alloc, table, table.instances())?;
         Ok(Openings { relations })
     }
 

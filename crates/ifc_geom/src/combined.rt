@@ -38,13 +38,7 @@ fn operator(table: &Table<'_>, at: u64) -> Result<BoolOp, Refusal>
 }
 
 /// The map of a mapped item: what surrounds it, then the operator, then the axes of its origin (a rule of this project).
-fn mapped(
-    table: &Table<'_>,
-    g: &GeomIn,
-    at: u64,
-    map: &Map,
-    origin: &Frame,
-) -> Result<Map, Refusal>
+fn mapped(table: &Table<'_>, g: &GeomIn, at: u64, map: &Map, origin: &Frame) -> Result<Map, Refusal>
     requires { IsSimple table.now at }
     ensures { result ≡ mapped (file_of table.now g.now) at map.now origin.now }
 {
@@ -259,5 +253,13 @@ pub fn read_solid(
     ensures value { ReadsSolid result (solid (65 - depth) (file_of table.now g.now) at map.now count) }
     ensures few { IfOk result (λ read. read.1 ≤ 4096) }
 {
-    solid(alloc, table, g, at, map, (MOST_DEPTH + 1).saturating_sub(depth), count)
+    solid(
+        alloc,
+        table,
+        g,
+        at,
+        map,
+        (MOST_DEPTH + 1).saturating_sub(depth),
+        count,
+    )
 }

@@ -94,13 +94,7 @@ fn lowered(alloc: Global, boundary: Loop, depth: i128) -> Result<Loops, AllocErr
 }
 
 /// The sweep of a boundary along z, as far as a bounded half-space reaches both ways.
-fn column(
-    alloc: Global,
-    at: u64,
-    grid: u32,
-    map: &Map,
-    boundary: Loop,
-) -> Result<Solid, AllocError>
+fn column(alloc: Global, at: u64, grid: u32, map: &Map, boundary: Loop) -> Result<Solid, AllocError>
     requires grid { IsGrid grid }
     requires long { 3 ≤ length boundary }
     requires within { All (IsWithin (10 ^ 16)) boundary }

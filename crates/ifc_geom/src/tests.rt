@@ -34,7 +34,13 @@ fn push_solid(text: &mut String, solid: &Solid) -> Result<(), AllocError> {
     match solid {
         Solid::Faces { at, map, faces } => {
             let transform = map.transform;
-            write!(text, "#{at} by {} at {}, {} faces", transform.x.x, transform.off.x, faces.len())
+            write!(
+                text,
+                "#{at} by {} at {}, {} faces",
+                transform.x.x,
+                transform.off.x,
+                faces.len()
+            )
         }
         Solid::Half { at, map, agreement } => {
             let transform = map.transform;
@@ -88,10 +94,19 @@ fn reads_solids(rt: HostRuntime) -> Result<(), Fail> {
         (5, "#5 by 1000000000 at 1000, 6 faces, 24"),
         (6, "#6 by 1000000000 at 1000, 6 faces, 24"),
         (8, "#8 at 1000 true, 1"),
-        (9, "Difference of #5 by 1000000000 at 1000, 6 faces and #8 at 1000 true, 25"),
-        (12, "Intersection of #12 at 1000 false and #12 by 1000000000 at 1000, 5 faces, 19"),
+        (
+            9,
+            "Difference of #5 by 1000000000 at 1000, 6 faces and #8 at 1000 true, 25",
+        ),
+        (
+            12,
+            "Intersection of #12 at 1000 false and #12 by 1000000000 at 1000, 5 faces, 19",
+        ),
         (13, "#6 by 1000000000 at 1000, 6 faces, 24"),
-        (17, "all of #6 by 2000000000 at 5000, 6 faces; #6 by 2000000000 at 5000, 6 faces; , 48"),
+        (
+            17,
+            "all of #6 by 2000000000 at 5000, 6 faces; #6 by 2000000000 at 5000, 6 faces; , 48",
+        ),
         (18, "Refused(TooDeep { at: 18 })"),
         (19, "Refused(BadAttribute { at: 19, position: 1 })"),
         (20, "Refused(Unsupported { at: 3 })"),

@@ -1,5 +1,5 @@
 -- A direction of the ratios that are read.
-use Rattle.std.proofs.Common.{◌≡◌, ℕ, ℤ, List, Result, Ok, Err, ap}
+use Rattle.std.proofs.Common.{◌≡◌, ℕ, ℤ, List, Ok, Err, ap}
 use Rattle.spec_space.specs.declared.Vector.{Vector}
 use Rattle.spec_place.specs.Directions as directions
 use Rattle.spec_refusal.specs.Reads.{Read, next}

@@ -31,7 +31,12 @@ fn inner_curve(
     ensures few { IfOk result (λ read. read.1 ≤ 4096) }
 {
     let number = member_instance(table, at, 4, p)?;
-    let inner = curve(alloc, table, g, instance_of_kinds(table, &CURVE_KINDS, number)?)?;
+    let inner = curve(
+        alloc,
+        table,
+        g,
+        instance_of_kinds(table, &CURVE_KINDS, number)?,
+    )?;
     let reached = count_loop(count, &inner)?;
     Ok((inner, reached))
 }

@@ -57,13 +57,7 @@ fn positive_below(
 }
 
 /// The thickness of the wall of a hollow rectangle.
-fn wall_thickness(
-    table: &Table<'_>,
-    g: &GeomIn,
-    at: u64,
-    x: i128,
-    y: i128,
-) -> Result<i128, Refusal>
+fn wall_thickness(table: &Table<'_>, g: &GeomIn, at: u64, x: i128, y: i128) -> Result<i128, Refusal>
     requires { IsSimple table.now at }
     ensures value { result ≡ wall_thickness (file_of table.now g.now) at x y }
     ensures extent { IfOk result IsExtent }

@@ -12,5 +12,5 @@ invariant-loop-p l = record {
   long : AreLong l.loops;
   within : AreWithin (10 ^ 16) l.loops;
   rest : each_counted (member_bound (file_of l.table l.g) l.face) l.members l.count
-    ≡ behind l.loops (each_counted (member_bound (file_of l.table l.g) l.face) (drop l.p-index l.members) l.reached);
+      ≡ behind l.loops (each_counted (member_bound (file_of l.table l.g) l.face) (drop l.p-index l.members) l.reached);
 }

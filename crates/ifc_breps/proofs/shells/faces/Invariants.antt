@@ -8,5 +8,5 @@ abbrev pub invariant-loop-p : goal.invariant-loop-p
 invariant-loop-p l = record {
   few : l.reached ≤ 4096;
   rest : each_counted (member_face (file_of l.table l.g) l.shell) l.members l.count
-    ≡ behind l.faces.items (each_counted (member_face (file_of l.table l.g) l.shell) (drop l.p-index l.members) l.reached);
+      ≡ behind l.faces.items (each_counted (member_face (file_of l.table l.g) l.shell) (drop l.p-index l.members) l.reached);
 }

@@ -7,5 +7,5 @@ abbrev pub invariant-loop-p : goal.invariant-loop-p
 invariant-loop-p l = record {
   few : l.reached ≤ 4096;
   rest : with_shells (file_of l.table l.g) l.at l.fn.before.items l.members l.count
-    ≡ with_shells (file_of l.table l.g) l.at l.faces.items (drop l.p-index l.members) l.reached;
+      ≡ with_shells (file_of l.table l.g) l.at l.faces.items (drop l.p-index l.members) l.reached;
 }

@@ -28,5 +28,5 @@ abbrev pub invariant-member_solids-loop-p : goal.invariant-member_solids-loop-p
 invariant-member_solids-loop-p l = record {
   few : l.reached ≤ 4096;
   rest : each_counted (member_solid (file_of l.table l.g) (solid l.deeper (file_of l.table l.g)) l.representation l.map) l.members l.count
-    ≡ behind (map shape_of l.parts) (each_counted (member_solid (file_of l.table l.g) (solid l.deeper (file_of l.table l.g)) l.representation l.map) (drop l.p-index l.members) l.reached);
+      ≡ behind (map shape_of l.parts) (each_counted (member_solid (file_of l.table l.g) (solid l.deeper (file_of l.table l.g)) l.representation l.map) (drop l.p-index l.members) l.reached);
 }

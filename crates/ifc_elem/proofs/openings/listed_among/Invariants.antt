@@ -1,10 +1,10 @@
 use Rattle.std.proofs.Common.{◌≡◌, ℕ, ◌++◌, drop, filter, map, nat_eq}
 use Rattle.indexmap.specs.IndexMap.{get}
 use Rattle.spec_entity.specs.Elements.{voids}
-use Rattle.spec_geometry.specs.Elements.{voiding}
 use Rattle.ifc_elem.specs.Voiding.{listed}
-use Rattle.ifc_elem.proofs.openings.Openings.of.Given as goal
+use Rattle.ifc_elem.proofs.openings.listed_among.Given as goal
 
 abbrev pub invariant-loop-instance : goal.invariant-loop-instance
 invariant-loop-instance l = (n : ℕ) →
-    voiding l.table n ≡ listed (get nat_eq l.relations n) ++ filter (voids l.table n) (map (λ i. i.number) (drop l.instance-index l.instances))
+    filter (voids l.table n) (map (λ i. i.number) l.instances)
+    ≡ listed (get nat_eq l.relations n) ++ filter (voids l.table n) (map (λ i. i.number) (drop l.instance-index l.instances))
