@@ -1,4 +1,2 @@
-mod Indices
 mod Joints
-mod Looped
 pub mod Outlined
