@@ -1,0 +1,10 @@
+//! The loops of profiles: rectangles, hollow rectangles, I shapes and closed curves, and where they stand in their plane.
+#![tactic(auto)]
+
+mod curve;
+mod loops;
+mod place;
+mod shapes;
+
+pub use loops::{Loop, Loops};
+pub use shapes::{hollow, i_shape, rectangle};

@@ -1,0 +1,53 @@
+use crate::face::Face;
+use ix_place::{Frame, Map};
+use spec_solid::BoolOp;
+use sqlite_items::{Boxed, Items};
+
+/// A solid as it is read, before it is mapped to the grid and rounded. `at` is the number of the instance that a refusal
+/// of it names.
+#[derive(Debug, Drop)]
+pub enum Solid {
+    /// A primitive by its faces, whose corners are those before the map.
+    Faces {
+        at: u64,
+        map: Map,
+        faces: Vec<Face>,
+    },
+    /// A half-space (IfcHalfSpaceSolid) by the map composed with the frame of its plane, and its AgreementFlag: where it is
+    /// set, the material lies on the side away from the normal.
+    Half {
+        at: u64,
+        map: Map,
+        agreement: bool,
+    },
+    /// Two solids combined (IfcBooleanResult, IfcBooleanClippingResult).
+    Combined {
+        operator: BoolOp,
+        first: Boxed<Solid>,
+        second: Boxed<Solid>,
+    },
+    /// Solids united (IfcMappedItem); none have no points.
+    Union { parts: Items<Solid> },
+}
+
+/// An item of a representation.
+#[derive(Debug, Drop)]
+pub struct Item {
+    /// The number of its instance.
+    pub at: u64,
+    /// Its solid.
+    pub solid: Solid,
+}
+
+/// The solid of an element: its items without the items of its openings.
+#[derive(Debug, Drop)]
+pub struct ElementSolid {
+    /// The number of the element's instance.
+    pub number: u64,
+    /// Its items, in its own frame.
+    pub items: Vec<Item>,
+    /// The items of its openings, in its own frame too.
+    pub openings: Vec<Item>,
+    /// Where it stands in the world.
+    pub frame: Frame,
+}
