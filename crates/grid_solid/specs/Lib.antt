@@ -1,0 +1,5 @@
+pub mod Triangles
+pub mod Shapes
+pub mod Views
+pub mod Bounds
+pub mod Bodies
