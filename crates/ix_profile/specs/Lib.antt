@@ -1,2 +1,4 @@
 pub mod Outlines
 pub mod Others
+pub mod Ends
+pub mod Curves

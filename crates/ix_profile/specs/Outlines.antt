@@ -11,6 +11,11 @@ AreWithin n loops = All (All (IsWithin n)) loops
 abbrev pub AreLong : List (List Vector) → Type 0
 AreLong loops = All (λ l. 3 ≤ length l) loops
 
+-- a loop of at least three points, with no coordinate above n
+pub record IsLoop (n : ℕ) (points : List Vector) : Type 0 where
+  pub long : 3 ≤ length points
+  pub within : All (IsWithin n) points
+
 -- the outline of a profile or of a face: at least one loop, each of at least three points, no coordinate above n
 pub record IsOutline (n : ℕ) (loops : List (List Vector)) : Type 0 where
   pub some : 1 ≤ length loops

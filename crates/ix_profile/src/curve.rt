@@ -1,4 +1,4 @@
-ghost use Rattle.std.specs.Prelude.{◌≡◌, ◌≤◌, ◌∷◌, ◌++◌, [], ℕ, length, All, IfSome, IfOk, OnOk, OnErr, if◌then◌else◌};
+ghost use Rattle.std.specs.Prelude.{◌≡◌, ◌≤◌, not, ◌&&◌, ◌∷◌, ◌++◌, [], ℕ, length, All, IfSome, IfOk, OnOk, OnErr, if◌then◌else◌};
 ghost use Rattle.spec_place.specs.Vectors.{IsWithin};
 ghost use Rattle.std.specs.Option.{option_copied};
 ghost use Rattle.spec_shape.specs.Loops.{is_same, repeats_first, open_loop, has_three};
@@ -21,18 +21,30 @@ fn repeats_first(points: &[Vector]) -> bool
     points.len() > 1 && is_same(&points[0], &points[points.len() - 1])
 }
 
+/// Whether a point differs from two others.
+fn differs(p: &Vector, q: &Vector, r: &Vector) -> bool
+    ensures { result ≡ (not (is_same p.now r.now) && not (is_same q.now r.now)) }
+{
+    !is_same(p, r) && !is_same(q, r)
+}
+
 /// The first of the points that differs from two others.
 fn other_than<'a>(p: &Vector, q: &Vector, points: &'a [Vector]) -> Option<&'a Vector>
     ensures { option_copied result ≡ other_than p.now q.now points.now }
 {
-    points.iter().find(|r| !is_same(p, r) && !is_same(q, r))
+    for r in points {
+        if differs(p, q, r) {
+            return Some(r);
+        }
+    }
+    None
 }
 
 /// Whether three of the points are different.
 fn has_three(points: &[Vector]) -> bool
     ensures { result ≡ has_three points.now }
 {
-    let Some(first) = points.first() else {
+    let [first, ..] = points else {
         return false;
     };
     let Some(second) = other_than(first, first, points) else {

@@ -2,9 +2,15 @@
 #![tactic(auto)]
 
 mod curve;
+mod curves;
+mod fault;
 mod loops;
 mod place;
 mod shapes;
+mod span;
+#[cfg(test)]
+mod tests;
 
+pub use fault::LoopFault;
 pub use loops::{Loop, Loops};
 pub use shapes::{hollow, i_shape, rectangle};

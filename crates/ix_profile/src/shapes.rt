@@ -1,23 +1,22 @@
 ghost use Rattle.std.specs.Prelude.{◌≡◌, ◌^◌, ◌≤◌, ◌+ℤ◌, ◌-ℤ◌, ◌∷◌, [], unsigned_abs, IfOk};
+ghost use Rattle.spec_place.specs.Vectors.{IsWithin};
 ghost use Rattle.spec_shape.specs.Profiles.{planar, lower, upper, between, i_loop, rectangle, hollow, i_shape};
-ghost use Rattle.ix_profile.specs.Outlines.{IsExtent, IsLowerEnd, IsOutline};
+ghost use Rattle.ix_profile.specs.Outlines.{IsExtent, IsLowerEnd, IsLoop, IsOutline};
+ghost use Rattle.ix_profile.specs.Ends.{AreEnds};
 
 use crate::loops::{Loop, Loops};
+use crate::span::Span;
 use ix_num::round_div;
 use spec_space::Vector;
 use std::alloc::{AllocError, Global};
 
 fn planar(x: i128, y: i128) -> Vector
-    ensures { result ≡ planar x y }
+    requires x { unsigned_abs x ≤ 10 ^ 16 }
+    requires y { unsigned_abs y ≤ 10 ^ 16 }
+    ensures value { result ≡ planar x y }
+    ensures within { IsWithin (10 ^ 16) result }
 {
     Vector { x, y, z: 0 }
-}
-
-/// An extent that is centred on 0, by its two ends.
-#[derive(Clone, Copy)]
-struct Span {
-    lower: i128,
-    upper: i128,
 }
 
 fn centred(extent: i128) -> Span
@@ -26,6 +25,7 @@ fn centred(extent: i128) -> Span
     ensures upper { result.upper ≡ upper extent }
     ensures low { IsLowerEnd result.lower }
     ensures high { IsExtent result.upper }
+    ensures ends { AreEnds result }
 {
     let lower = round_div(-extent, 2);
     Span {
@@ -41,8 +41,7 @@ fn within(span: Span, wall: i128) -> Span
     requires wall { IsExtent wall }
     ensures lower { result.lower ≡ span.lower +ℤ wall }
     ensures upper { result.upper ≡ span.upper -ℤ wall }
-    ensures low { unsigned_abs result.lower ≤ 10 ^ 16 }
-    ensures high { unsigned_abs result.upper ≤ 10 ^ 16 }
+    ensures ends { AreEnds result }
 {
     Span {
         lower: span.lower + wall,
@@ -52,7 +51,10 @@ fn within(span: Span, wall: i128) -> Span
 
 /// The loop of a rectangle between two ends along x and two along y.
 fn between(alloc: Global, x: Span, y: Span) -> Result<Loop, AllocError>
-    ensures { IfOk result (λ l. l ≡ between x.lower x.upper y.lower y.upper) }
+    requires x { AreEnds x }
+    requires y { AreEnds y }
+    ensures value { IfOk result (λ l. l ≡ between x.lower x.upper y.lower y.upper) }
+    ensures kept { IfOk result (IsLoop (10 ^ 16)) }
 {
     Ok(Loop {
         points: Vec::from_array(
@@ -69,7 +71,12 @@ fn between(alloc: Global, x: Span, y: Span) -> Result<Loop, AllocError>
 
 /// The loop of an I between its ends: the web between two ends along x, and two flanges that leave what is between along y.
 fn i_loop(alloc: Global, x: Span, web: Span, y: Span, between: Span) -> Result<Loop, AllocError>
-    ensures { IfOk result (λ l. l ≡ i_loop x.lower web.lower web.upper x.upper y.lower between.lower between.upper y.upper) }
+    requires x { AreEnds x }
+    requires web { AreEnds web }
+    requires y { AreEnds y }
+    requires between { AreEnds between }
+    ensures value { IfOk result (λ l. l ≡ i_loop x.lower web.lower web.upper x.upper y.lower between.lower between.upper y.upper) }
+    ensures kept { IfOk result (IsLoop (10 ^ 16)) }
 {
     Ok(Loop {
         points: Vec::from_array(
@@ -92,12 +99,25 @@ fn i_loop(alloc: Global, x: Span, web: Span, y: Span, between: Span) -> Result<L
     })
 }
 
-/// The loops of which there is one.
 fn one_loop(alloc: Global, first: Loop) -> Result<Loops, AllocError>
-    ensures { IfOk result (λ loops. loops ≡ first ∷ []) }
+    requires { IsLoop (10 ^ 16) first }
+    ensures value { IfOk result (λ loops. loops ≡ first ∷ []) }
+    ensures outline { IfOk result (IsOutline (10 ^ 16)) }
 {
     let mut loops = Loops::new(alloc);
     loops.push(first)?;
+    Ok(loops)
+}
+
+fn two_loops(alloc: Global, first: Loop, second: Loop) -> Result<Loops, AllocError>
+    requires first { IsLoop (10 ^ 16) first }
+    requires second { IsLoop (10 ^ 16) second }
+    ensures value { IfOk result (λ loops. loops ≡ first ∷ second ∷ []) }
+    ensures outline { IfOk result (IsOutline (10 ^ 16)) }
+{
+    let mut loops = Loops::new(alloc);
+    loops.push(first)?;
+    loops.push(second)?;
     Ok(loops)
 }
 
@@ -130,9 +150,12 @@ pub fn hollow(alloc: Global, x: i128, y: i128, wall: i128) -> Result<Loops, Allo
     ensures outline { IfOk result (λ loops. IsOutline (10 ^ 16) loops) }
 {
     let (x, y) = (centred(x), centred(y));
-    let mut loops = one_loop(alloc, between(alloc, x, y)?)?;
-    loops.push(between(alloc, within(x, wall), within(y, wall))?)?;
-    Ok(loops)
+    let outer = between(alloc, x, y)?;
+    two_loops(
+        alloc,
+        outer,
+        between(alloc, within(x, wall), within(y, wall))?,
+    )
 }
 
 /// The loop of an I shape (IfcIShapeProfileDef) by its overall width, its overall depth, and the thicknesses of its web

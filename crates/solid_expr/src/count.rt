@@ -18,22 +18,30 @@ fn is_bounded_by(operator: BoolOp, first: bool, second: bool) -> bool
     }
 }
 
-/// Whether the solid is bounded (a rule of this project): a primitive is, a half-space is not; a union is where all parts
-/// are, an intersection where one of the two is, a difference where the first one is.
+/// Whether the solid is bounded (a rule of this project): a primitive is, a half-space is not; a union is where all its
+/// parts are, an intersection where one of the two is, a difference where its first part is.
+#[cycle(bounded)]
 pub fn is_bounded(solid: &Solid) -> bool
     ensures { result ≡ is_bounded (shape_of solid.now) }
 {
     match solid {
         Solid::Faces { .. } => true,
         Solid::Half { .. } => false,
-        Solid::Combined { operator, first, second } => {
-            is_bounded_by(*operator, is_bounded(first.get()), is_bounded(second.get()))
+        Solid::Combined {
+            operator,
+            first,
+            second,
+        } => {
+            let is_first = is_bounded(first.get());
+            let is_second = is_bounded(second.get());
+            is_bounded_by(*operator, is_first, is_second)
         }
         Solid::Union { parts } => are_bounded(parts.as_slice()),
     }
 }
 
 /// Whether all of the solids are bounded.
+#[cycle(bounded)]
 fn are_bounded(solids: &[Solid]) -> bool
     ensures { result ≡ is_bounded (united (map shape_of solids.now)) }
 {
@@ -45,6 +53,12 @@ fn are_bounded(solids: &[Solid]) -> bool
     true
 }
 
+fn count_loop(counted: &Loop) -> u128
+    ensures { result ≡ length counted.now }
+{
+    counted.len() as u128
+}
+
 /// How many corners the loops have together.
 fn count_corners(loops: &[Loop]) -> u128
     requires { sum_by length loops.now < 2 ^ 128 }
@@ -52,7 +66,7 @@ fn count_corners(loops: &[Loop]) -> u128
 {
     let mut count = 0;
     for l in loops {
-        count += l.len() as u128;
+        count += count_loop(l);
     }
     count
 }
@@ -61,7 +75,7 @@ fn count_face(face: &Face) -> u128
     requires { face_count face.now < 2 ^ 128 }
     ensures { result ≡ face_count face.now }
 {
-    count_corners(face.loops.as_slice())
+    count_corners(face.loops().as_slice())
 }
 
 fn count_faces(faces: &[Face]) -> u128
@@ -75,7 +89,25 @@ fn count_faces(faces: &[Face]) -> u128
     count
 }
 
+/// How many triangles the solid has, one for each edge of a loop, and half-spaces.
+#[cycle(count)]
+pub fn count_triangles(solid: &Solid) -> u128
+    requires { count_triangles (shape_of solid.now) < 2 ^ 128 }
+    ensures { result ≡ count_triangles (shape_of solid.now) }
+{
+    match solid {
+        Solid::Faces { faces, .. } => count_faces(faces),
+        Solid::Half { .. } => 1,
+        Solid::Combined { first, second, .. } => {
+            count_triangles(first.get()) + count_triangles(second.get())
+        }
+        Solid::Union { parts } => count_parts(parts.as_slice()),
+    }
+}
+
 /// How many triangles and half-spaces the solids have together.
+#[cycle(count)]
+#[tactic(auto, using(crate::proofs::Counts::part_small))]
 fn count_parts(solids: &[Solid]) -> u128
     requires { count_triangles (united (map shape_of solids.now)) < 2 ^ 128 }
     ensures { result ≡ count_triangles (united (map shape_of solids.now)) }
@@ -85,17 +117,4 @@ fn count_parts(solids: &[Solid]) -> u128
         count += count_triangles(solid);
     }
     count
-}
-
-/// How many triangles the solid has, one for each edge of a loop, and half-spaces.
-pub fn count_triangles(solid: &Solid) -> u128
-    requires { count_triangles (shape_of solid.now) < 2 ^ 128 }
-    ensures { result ≡ count_triangles (shape_of solid.now) }
-{
-    match solid {
-        Solid::Faces { faces, .. } => count_faces(faces),
-        Solid::Half { .. } => 1,
-        Solid::Combined { first, second, .. } => count_triangles(first.get()) + count_triangles(second.get()),
-        Solid::Union { parts } => count_parts(parts.as_slice()),
-    }
 }

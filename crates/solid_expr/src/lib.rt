@@ -3,10 +3,16 @@
 
 mod count;
 mod face;
+mod face_loops;
+mod lift;
 mod prism;
 mod solid;
+#[cfg(test)]
+mod tests;
+mod vectors;
 
 pub use count::{count_triangles, is_bounded};
 pub use face::Face;
-pub use prism::{block_faces, lifted, prism_faces};
+pub use lift::lifted;
+pub use prism::{block_faces, prism_faces};
 pub use solid::{ElementSolid, Item, Solid};

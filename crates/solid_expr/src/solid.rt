@@ -27,7 +27,9 @@ pub enum Solid {
         second: Boxed<Solid>,
     },
     /// Solids united (IfcMappedItem); none have no points.
-    Union { parts: Items<Solid> },
+    Union {
+        parts: Items<Solid>,
+    },
 }
 
 /// An item of a representation.

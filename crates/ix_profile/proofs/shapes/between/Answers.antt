@@ -1,0 +1,7 @@
+use Rattle.std.proofs.Common.{◌^◌}
+use Rattle.ix_profile.proofs.Outlines.{listed_loop}
+use Rattle.ix_profile.proofs.shapes.between.Goals as goal
+
+pub returns-clause-kept : goal.returns-clause-kept
+returns-clause-kept c =
+    listed_loop (10 ^ 16) c.in_ok-from_array.ensures.items (c.planar.ensures.within, (c.planar-2.ensures.within, (c.planar-3.ensures.within, (c.planar-4.ensures.within, tt)))) tt

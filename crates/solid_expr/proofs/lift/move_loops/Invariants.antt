@@ -1,0 +1,10 @@
+use Rattle.std.proofs.Common.{◌^◌, map, List}
+use Rattle.std.specs.Prelude.{All}
+use Rattle.spec_space.specs.declared.Vector.{Vector}
+use Rattle.spec_place.specs.Vectors.{IsWithin}
+use Rattle.spec_solid.specs.Extrusions.{plus}
+use Rattle.ix_profile.proofs.Replaced.{AreReplaced}
+use Rattle.solid_expr.proofs.lift.move_loops.Given as goal
+
+abbrev pub invariant-loop-moved : goal.invariant-loop-moved
+invariant-loop-moved l = AreReplaced {X = List Vector} (map (plus l.by)) (All (IsWithin (2 ^ 59))) (λ v. Unit {0}) l.fn.loops l.loops l.moved-index
