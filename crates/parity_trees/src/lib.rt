@@ -1,0 +1,15 @@
+//! Trees that count regions: true where an odd number of them holds the point.
+#![tactic(auto)]
+
+mod left;
+mod crossing;
+mod regions;
+mod sides;
+mod step;
+#[cfg(test)]
+mod tests;
+mod walk;
+mod work;
+
+pub use regions::Region;
+pub use walk::parity_tree;

@@ -1,0 +1,3 @@
+mod Divisors
+mod Sizes
+pub mod Laws

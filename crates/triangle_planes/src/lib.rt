@@ -1,0 +1,11 @@
+//! The reduced planes of triangles on the grid.
+#![tactic(auto)]
+
+mod forms;
+mod normals;
+mod planes;
+#[cfg(test)]
+mod tests;
+
+pub use forms::{Forms, TriangleForms};
+pub use planes::forms_of;

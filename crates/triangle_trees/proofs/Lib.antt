@@ -1,0 +1,4 @@
+pub mod Grown
+pub mod Covers
+mod Below
+pub mod Wholes
