@@ -1,0 +1,4 @@
+mod Orders
+mod Odds
+pub mod Even
+mod Sets
