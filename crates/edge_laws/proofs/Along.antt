@@ -48,8 +48,8 @@ module _ (s : Plane) (e : Step) (is : IsEdgeOf s e) where
   pub part_along : (u v : Point) → value s u ≡ pos 0 → value s v ≡ pos 0 → value e.side u ≡ pos 0 → value e.side v ≡ pos 0 → IsAfter (way_of e) u v → GoesAlong (cross (normal s) (normal (opposite e.side))) (way_between u v)
   part_along u v su sv eu ev after = goes_same (cross (normal s) (normal (opposite e.side))) (way_of e) (way_between u v)
       (one_way (normal s) (normal e.side) (way_of e) (way_between u v)
-          (down (dot (normal s) (cross (normal e.side) (way_of e))) (turned_down s e is (way_of e) (own_way s e is) e.start is.start_on is.start_side))
-          (way_on s e.start e.end is.start_on is.end_on) (way_on e.side e.start e.end is.start_side is.end_side) (way_on s u v su sv) (way_on e.side u v eu ev))
+      (down (dot (normal s) (cross (normal e.side) (way_of e))) (turned_down s e is (way_of e) (own_way s e is) e.start is.start_on is.start_side))
+      (way_on s e.start e.end is.start_on is.end_on) (way_on e.side e.start e.end is.start_side is.end_side) (way_on s u v su sv) (way_on e.side u v eu ev))
       (own_way s e is) (subst (λ x. pos 0 <ℤ x) (dot_swapped (way_between u v) (way_of e)) after) whole
     where
       down : (x : ℤ) → x <ℤ pos 0 → x ≢ pos 0

@@ -108,12 +108,15 @@ module _ (planes : List BookPlane) (corners : List Corner) (support : PlaneId) (
   none_other : (p : Corner × Corner) → Member p (pairs_from k.side.start rest) → (d : Corner) → Member d corners → OnEdge d → After p.0 d → After d p.1 → ⊥
   none_other p mp d md on low high =
       let w = each_member (λ p. (FromStart p.0 × ToEnd p.0) × (FromStart p.1 × ToEnd p.1)) p (pairs_from k.side.start rest) mp (each_pairs (λ c. FromStart c × ToEnd c) k.side.start rest all_within) in
-      let there : Member d k.inside = contains_member d k.inside ((cut.all d).1 (member_contains d corners md, record {
-        on_support = on.0;
-        on_edge = on_plane k.side.edge.keep_front (plane_at planes k.side.edge.plane) (point_of d) on.1;
-        after_start = start_before s e is t own (point_of d) on.0 on.1 (after_first p.0 d w.0.0 low);
-        before_end = end_after s e is t own (point_of d) on.0 on.1 (before_last p.1 d w.1.1 high);
-      })) in
+      let there : Member d k.inside = contains_member d k.inside ((cut.all d).1 (
+        member_contains d corners md,
+        record {
+          on_support = on.0;
+          on_edge = on_plane k.side.edge.keep_front (plane_at planes k.side.edge.plane) (point_of d) on.1;
+          after_start = start_before s e is t own (point_of d) on.0 on.1 (after_first p.0 d w.0.0 low);
+          before_end = end_after s e is t own (point_of d) on.0 on.1 (before_last p.1 d w.1.1 high);
+        },
+      )) in
       none_between After (λ c d h g. after_once t (point_of c) (point_of d) h g) k.side.start rest order p mp d (inr (member_left d k.inside (k.side.end ∷ []) there)) low high
 
   -- ---- the chain of places
@@ -159,15 +162,15 @@ module _ (planes : List BookPlane) (corners : List Corner) (support : PlaneId) (
       corners = each_map In (place_of corners) (k.side.start ∷ rest) (each_from_members (λ c. In (place_of corners c)) (k.side.start ∷ rest) given);
       on_line = each_map (IsOnLine point s e) (place_of corners) (k.side.start ∷ rest)
           (each_from_members (λ c. IsOnLine point s e (place_of corners c)) (k.side.start ∷ rest) (λ c m.
-              let on = each_member OnEdge c (k.side.start ∷ rest) m all_on in
-              let here = point_here c (each_member (λ c. Member c corners) c (k.side.start ∷ rest) m (all_in start_in end_in)) in
-              (subst (λ x. value s x ≡ pos 0) (sym here) on.0, subst (λ x. value e.side x ≡ pos 0) (sym here) on.1)));
+          let on = each_member OnEdge c (k.side.start ∷ rest) m all_on in
+          let here = point_here c (each_member (λ c. Member c corners) c (k.side.start ∷ rest) m (all_in start_in end_in)) in
+          (subst (λ x. value s x ≡ pos 0) (sym here) on.0, subst (λ x. value e.side x ≡ pos 0) (sym here) on.1)));
       rising = subst (Each Rises) (sym (pairs_mapped k.side.start rest)) (each_map Rises (λ p. (place_of corners p.0, place_of corners p.1)) (pairs_from k.side.start rest)
           (each_from_members (λ p. Rises (place_of corners p.0, place_of corners p.1)) (pairs_from k.side.start rest) (λ p m.
-              let f = each_member (λ p. (Member p.0 corners × Member p.1 corners) × Member p (pairs_from k.side.start rest)) p (pairs_from k.side.start rest) m pair_facts in
-              rises p f.0.0 f.0.1 (each_member (λ p. After p.0 p.1) p (pairs_from k.side.start rest) m (each_next After k.side.start rest order)))));
+          let f = each_member (λ p. (Member p.0 corners × Member p.1 corners) × Member p (pairs_from k.side.start rest)) p (pairs_from k.side.start rest) m pair_facts in
+          rises p f.0.0 f.0.1 (each_member (λ p. After p.0 p.1) p (pairs_from k.side.start rest) m (each_next After k.side.start rest order)))));
       complete = subst (Each (IsClear point In s e)) (sym (pairs_mapped k.side.start rest)) (each_map (IsClear point In s e) (λ p. (place_of corners p.0, place_of corners p.1)) (pairs_from k.side.start rest)
           (each_from_members (λ p. IsClear point In s e (place_of corners p.0, place_of corners p.1)) (pairs_from k.side.start rest) (λ p m.
-              let f = each_member (λ p. (Member p.0 corners × Member p.1 corners) × Member p (pairs_from k.side.start rest)) p (pairs_from k.side.start rest) m pair_facts in
-              clear p f.0.0 f.0.1 m)));
+          let f = each_member (λ p. (Member p.0 corners × Member p.1 corners) × Member p (pairs_from k.side.start rest)) p (pairs_from k.side.start rest) m pair_facts in
+          clear p f.0.0 f.0.1 m)));
     }

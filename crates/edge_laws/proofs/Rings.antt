@@ -46,7 +46,7 @@ flat_member (k ∷ ks) c m = elim (cases (corners_along k) m) [
     cases : (cs : List Corner) → Member c (cs ++ flat_map corners_along ks) → Member c cs ⊎ Member c (flat_map corners_along ks)
     cases [] m = inr m
     cases (d ∷ ds) (inl same) = inl (inl same)
-    cases (d ∷ ds) (inr m) = elim (cases ds m) [ | inl there ↦ inl (inr there) | inr there ↦ inr there ]
+    cases (d ∷ ds) (inr m) = elim (cases ds m) [ inl there ↦ inl (inr there) | inr there ↦ inr there ]
 
 each_along : (P : Point → Type 0) (ks : List CutSide) → ((k : CutSide) → Member k ks → (c : Corner) → Member c (corners_along k) → P (point_of c)) → Each P (map point_of (flat_map corners_along ks))
 each_along P ks h = each_map P point_of (flat_map corners_along ks) (each_from_members (λ c. P (point_of c)) (flat_map corners_along ks) (λ c m. let r = flat_member ks c m in h r.0 r.1 c r.2))
@@ -209,8 +209,8 @@ module _ (planes : List BookPlane) (f : Frag) (cuts : List CutSide) (corners : L
       let next = each_next (After planes corners f.support k (cut_at k m) is) k.side.start (rest_of k) (order planes corners f.support k (cut_at k m) is) in
       part_rows (outer k) k.side.edge k.side.start k.inside k.side.end refl
       (each_from_members (λ p. IsPart (outer k) (point_of p.0) (point_of p.1)) (pairs_from k.side.start (rest_of k)) (λ p mp.
-          let on = each_member (λ p. OnEdge planes corners f.support k (cut_at k m) is p.0 × OnEdge planes corners f.support k (cut_at k m) is p.1) p (pairs_from k.side.start (rest_of k)) mp pairs in
-          part k m p.0 p.1 on.0 on.1 (each_member (λ p. After planes corners f.support k (cut_at k m) is p.0 p.1) p (pairs_from k.side.start (rest_of k)) mp next)))
+      let on = each_member (λ p. OnEdge planes corners f.support k (cut_at k m) is p.0 × OnEdge planes corners f.support k (cut_at k m) is p.1) p (pairs_from k.side.start (rest_of k)) mp pairs in
+      part k m p.0 p.1 on.0 on.1 (each_member (λ p. After planes corners f.support k (cut_at k m) is p.0 p.1) p (pairs_from k.side.start (rest_of k)) mp next)))
 
   all_rows : (ks : List CutSide) → Each (λ k. Rows IsPart (parts planes k) (map point_of (corners_along k)) (map point_of (rest_of k))) ks
       → Rows IsPart (map (outer_side planes) (flat_map edges_along ks)) (map point_of (flat_map corners_along ks)) (map point_of (flat_map rest_of ks))
@@ -270,7 +270,7 @@ module _ (planes : List BookPlane) (f : Frag) (cuts : List CutSide) (corners : L
       subst (EachPair (λ p q. p ≢ q)) (sym (map-append point_of (corners_along k) (flat_map corners_along ks)))
       (pair_append (λ p q. p ≢ q) (map point_of (corners_along k)) (map point_of (flat_map corners_along ks)) (own_apart k ms.0)
       (each_map (λ p. Each (λ q. p ≢ q) (map point_of (flat_map corners_along ks))) point_of (corners_along k) (each_from_members (λ c. Each (λ q. point_of c ≢ q) (map point_of (flat_map corners_along ks))) (corners_along k) (λ c mc.
-          each_along (λ q. point_of c ≢ q) ks (λ l ml d md. two_apart k l ms.0 (each_member (λ k. Member k cuts) l ks ml ms.1) (each_member (λ l. KeepEachOther (step_of planes k.side) (step_of planes l.side)) l ks ml keep.0) (each_member (λ l. point_of k.side.start ≢ point_of l.side.start) l ks ml starts.0) c d mc md))))
+      each_along (λ q. point_of c ≢ q) ks (λ l ml d md. two_apart k l ms.0 (each_member (λ k. Member k cuts) l ks ml ms.1) (each_member (λ l. KeepEachOther (step_of planes k.side) (step_of planes l.side)) l ks ml keep.0) (each_member (λ l. point_of k.side.start ≢ point_of l.side.start) l ks ml starts.0) c d mc md))))
       (all_apart ks ms.1 keep.1 starts.1))
 
   -- ---- each edge has a corner behind it

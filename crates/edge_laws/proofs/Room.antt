@@ -84,12 +84,22 @@ to_sides : (low high : ℤ) (p : Point) → low ≡ pos 0 -ℤ high → IsBetwee
 to_sides low high p e i =
     let t = turned_product low high p.w e in (
       low_side p.x p.y p.z (low *ℤ p.w) i.x_low,
-      (high_side p.x p.y p.z (high *ℤ p.w) (low *ℤ p.w) t i.x_high,
-      (middle_low p.x p.y p.z (low *ℤ p.w) i.y_low,
-      (middle_high p.x p.y p.z (high *ℤ p.w) (low *ℤ p.w) t i.y_high,
-      (last_low p.x p.y p.z (low *ℤ p.w) i.z_low,
-      (last_high p.x p.y p.z (high *ℤ p.w) (low *ℤ p.w) t i.z_high,
-      tt))))),
+      (
+        high_side p.x p.y p.z (high *ℤ p.w) (low *ℤ p.w) t i.x_high,
+        (
+          middle_low p.x p.y p.z (low *ℤ p.w) i.y_low,
+          (
+            middle_high p.x p.y p.z (high *ℤ p.w) (low *ℤ p.w) t i.y_high,
+            (
+              last_low p.x p.y p.z (low *ℤ p.w) i.z_low,
+              (
+                last_high p.x p.y p.z (high *ℤ p.w) (low *ℤ p.w) t i.z_high,
+                tt,
+              ),
+            ),
+          ),
+        ),
+      ),
     )
 
 of_sides : (low high : ℤ) (p : Point) → low ≡ pos 0 -ℤ high → Each (λ h. pos 0 <ℤ value h p) (sides_between low high) → IsBetween low high p

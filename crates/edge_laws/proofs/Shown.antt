@@ -173,10 +173,10 @@ module _ (planes : List BookPlane) (t : Tree) (corners : List Corner) (q : Shown
   inside_room k m c mc =
       let i = (((each_member (IsCutAt planes corners q.piece.frag.support) k q.cuts m (each_from_all (IsCutAt planes corners q.piece.frag.support) q.cuts is.cut)).all c).0 (member_contains c k.inside mc)).1 in
       each_from_members (λ w. pos 0 <ℤ value w (point_of c)) room (λ w mw.
-          up_from_start h w (step_of planes k.side) (point_of c) (each_member (λ k. IsEdgeOf h (step_of planes k.side)) k q.cuts m edges_are)
-          (record { on = i.on_support; on_side = on_kept_side k.side.edge.keep_front (plane_at planes k.side.edge.plane) (point_of c) i.on_edge; after_start = i.after_start; before_end = i.before_end })
-          (each_member (λ w. pos 0 <ℤ value w (point_of k.side.start)) w room mw (start_room k m))
-          (weaker (value w (point_of k.side.end)) (each_member (λ w. pos 0 <ℤ value w (point_of k.side.end)) w room mw (each_member (λ k. InRoom (point_of k.side.end)) k q.cuts m end_rooms))))
+      up_from_start h w (step_of planes k.side) (point_of c) (each_member (λ k. IsEdgeOf h (step_of planes k.side)) k q.cuts m edges_are)
+      (record { on = i.on_support; on_side = on_kept_side k.side.edge.keep_front (plane_at planes k.side.edge.plane) (point_of c) i.on_edge; after_start = i.after_start; before_end = i.before_end })
+      (each_member (λ w. pos 0 <ℤ value w (point_of k.side.start)) w room mw (start_room k m))
+      (weaker (value w (point_of k.side.end)) (each_member (λ w. pos 0 <ℤ value w (point_of k.side.end)) w room mw (each_member (λ k. InRoom (point_of k.side.end)) k q.cuts m end_rooms))))
     where
       weaker : (x : ℤ) → pos 0 <ℤ x → pos 0 ≤ℤ x
       weaker x h = omega (arith, ints)
@@ -192,7 +192,7 @@ module _ (planes : List BookPlane) (t : Tree) (corners : List Corner) (q : Shown
       split [] (inl same) = inr same
       split [] (inr none) = absurd none
       split (d ∷ ds) (inl same) = inl (inl same)
-      split (d ∷ ds) (inr later) = elim (split ds later) [ | inl there ↦ inl (inr there) | inr last ↦ inr last ]
+      split (d ∷ ds) (inr later) = elim (split ds later) [ inl there ↦ inl (inr there) | inr last ↦ inr last ]
 
   along_there : (k : CutSide) → Member k q.cuts → (c : Corner) → Member c (k.side.start ∷ (k.inside ++ k.side.end ∷ [])) → Member c corners
   along_there k m c mc = each_member (λ c. Member c corners) c (k.side.start ∷ (k.inside ++ k.side.end ∷ [])) mc

@@ -1,8 +1,8 @@
 //! Trees that count regions: true where an odd number of them holds the point.
 #![tactic(auto)]
 
-mod left;
 mod crossing;
+mod left;
 mod regions;
 mod sides;
 mod step;

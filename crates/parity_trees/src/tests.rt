@@ -48,7 +48,13 @@ fn counts_the_regions_that_hold_a_point(rt: HostRuntime) -> Result<(), AllocErro
     }
     let mut pool = Pool::new(alloc)?;
     let tree = parity_tree(alloc, &book, &mut pool, regions(alloc)?)?;
-    for (x, y, value) in [(0, 0, Some(false)), (2, 0, Some(false)), (2, 2, Some(true)), (0, 2, Some(false)), (1, 2, None)] {
+    for (x, y, value) in [
+        (0, 0, Some(false)),
+        (2, 0, Some(false)),
+        (2, 2, Some(true)),
+        (0, 2, Some(false)),
+        (1, 2, None),
+    ] {
         let corner = place(x, y).expect(&rt, "a corner");
         assert_eq!(rt; value_at(&pool, tree, &book, &corner), value);
     }

@@ -15,12 +15,7 @@ use std::alloc::{AllocError, Global};
 use tree_pool::{Pool, TreeId};
 
 /// Takes a walk to its end. The error is want of memory.
-fn walk(
-    alloc: Global,
-    book: &PlaneBook,
-    pool: &mut Pool,
-    work: Work,
-) -> Result<TreeId, AllocError>
+fn walk(alloc: Global, book: &PlaneBook, pool: &mut Pool, work: Work) -> Result<TreeId, AllocError>
     requires cell { IsCellOf book.now work.cell }
     ensures made { IfOk result (IsMadeFor pool.new book.now (record { steps = work.cell.steps.items; sum = sum_of work.count })) }
     ensures live { IfOk result (IsLive pool.new) }

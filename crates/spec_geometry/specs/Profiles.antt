@@ -33,7 +33,6 @@ count_loops count (l ∷ ls) = next (count_loop count l) (λ more. count_loops m
 abbrev pub Counted : Type 0 → Type 0
 Counted T = Read (T × ℕ)
 
-
 -- Profiles of curves.
 
 -- a curve, counted
