@@ -4,8 +4,6 @@
 mod bodies;
 mod openings;
 mod products;
-#[cfg(test)]
-mod tests;
 
 pub use bodies::element_body;
 pub use entity_reader::elements;
