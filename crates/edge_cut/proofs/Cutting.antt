@@ -1,18 +1,17 @@
 -- A stretch of corners in the order of their coordinates is one in the order of the edge.
-use Rattle.std.proofs.Common.{◌≡◌, inl, inr, Bool, true, false, true≢false, ◌&&◌, List, map, All, AllPairs, Contains, ℤ, pos, neg_ℤ, ◌<ℤ◌, refl, sym, ap, ◌∙◌, subst, arith}
+use Rattle.std.proofs.Common.{◌≡◌, inl, inr, Bool, true, false, true≢false, ◌&&◌, List, map, All, Contains, ℤ, pos, neg_ℤ, ◌<ℤ◌, refl, sym, ap, ◌∙◌, subst, arith}
 use Rattle.std.specs.Prelude.{◌↔◌}
-use Rattle.std.specs.Ordering.{int_eq}
 use Rattle.std.proofs.lemmas.Bool.Decides.{Decides-int_eq}
 use Rattle.std.proofs.lemmas.Int.{ints}
 use Rattle.spec_space.specs.declared.Point.{Point}
 use Rattle.spec_space.specs.declared.Plane.{Plane}
-use Rattle.spec_space.specs.Points.{value, dot, way_between, opposite}
+use Rattle.spec_space.specs.Points.{value, way_between}
 use Rattle.spec_space.specs.Sums.{IsSamePoint}
 use Rattle.plane_core.specs.declared.numbers.Plane.{Plane as BookPlane}
 use Rattle.plane_core.specs.declared.numbers.Corner.{Corner}
 use Rattle.plane_core.specs.declared.book.PlaneId.{PlaneId}
 use Rattle.plane_core.specs.Views.{point_of}
-use Rattle.convex_cycles.specs.Cycles.{Step, IsEdgeOf, AreConvex}
+use Rattle.convex_cycles.specs.Cycles.{IsEdgeOf}
 use Rattle.convex_cycles.specs.Sides.{is_in_front}
 use Rattle.convex_cycles.proofs.Flags.{Tells, front_tells, front_flag}
 use Rattle.convex_cycles.proofs.Hull.{value-opposite}
@@ -23,23 +22,23 @@ use Rattle.line_turns.proofs.CutLists.{falling_after}
 use Rattle.poly_frag.specs.Frags.{plane_at, kept_side, side_of, support_of}
 use Rattle.poly_frag.specs.Cycles.{IsCycle}
 use Rattle.poly_frag.specs.declared.frag.Frag.{Frag}
-use Rattle.poly_frag.proofs.CornerSigns.{contains_member, member_contains}
+use Rattle.poly_frag.proofs.CornerSigns.{member_contains}
 use Rattle.edge_cut.specs.declared.sides.Side.{Side}
-use Rattle.edge_cut.specs.Sides.{AreSides}
+use Rattle.edge_cut.specs.Sides.{AreSides, step_of}
 use Rattle.edge_cut.specs.Cuts.{IsInsideEdge, CutSide, ComesAfter, IsCutAt}
 use Rattle.edge_cut.specs.Stretches.{comes_before, lies_on, is_on_line, is_between, is_inside, IsStretch}
 use Rattle.edge_cut.proofs.Orders.{before_cases, before_from, from_before}
-use Rattle.edge_cut.proofs.Steps.{step_of, steps_of, steps-AreConvex, on_spelling}
+use Rattle.edge_cut.proofs.Steps.{steps_of, steps-AreConvex, on_spelling}
 
 -- ---- tests
-both : (a b : Bool) → (a && b) ≡ true → (a ≡ true) × (b ≡ true)
+pub both : (a b : Bool) → (a && b) ≡ true → (a ≡ true) × (b ≡ true)
 both true b e = (refl, e)
 both false b e = absurd (true≢false (sym e))
 
-and_true : (a b : Bool) → a ≡ true → b ≡ true → (a && b) ≡ true
+pub and_true : (a b : Bool) → a ≡ true → b ≡ true → (a && b) ≡ true
 and_true a b e f = ap (λ x. x && b) e ∙ f
 
-in_front : (h : Plane) (p : Point) → is_in_front h p ≡ true → pos 0 <ℤ value h p
+pub in_front : (h : Plane) (p : Point) → is_in_front h p ≡ true → pos 0 <ℤ value h p
 in_front h p e = subst (λ b. Tells b (value h p)) e (front_tells h p)
 
 pub on_kept_side : (keep : Bool) (h : Plane) (p : Point) → value h p ≡ pos 0 → value (kept_side keep h) p ≡ pos 0
@@ -76,7 +75,7 @@ module _ (planes : List BookPlane) (cutting : List Corner) (support : PlaneId) (
       clash : (x : ℤ) → pos 0 <ℤ x → x ≡ pos 0 → ⊥
       clash x u e = omega (arith, ints)
 
-  goes_up : comes_before s.end s.start ≡ false → IsBefore (point_of s.start) (point_of s.end)
+  pub goes_up : comes_before s.end s.start ≡ false → IsBefore (point_of s.start) (point_of s.end)
   goes_up flag = elim (before_cases (point_of s.start) (point_of s.end)) [
     | inl up ↦ up
     | inr (inl same) ↦ absurd (ends_apart same)

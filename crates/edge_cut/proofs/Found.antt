@@ -1,17 +1,16 @@
 -- The corners at the places on a line.
-use Rattle.std.proofs.Common.{◌≡◌, ℕ, suc, ◌+◌, ◌<◌, ◌≤◌, Bool, true, false, ◌&&◌, cond, List, [], ◌∷◌, ◌++◌, Some, length, take, filter, slice_get, get_or, refl, sym, ap, ap₂, ◌∙◌, subst, arith, append_assoc, length-append, if◌then◌else◌}
+use Rattle.std.proofs.Common.{◌≡◌, ℕ, ◌+◌, ◌<◌, ◌≤◌, Bool, true, false, ◌&&◌, cond, List, [], ◌∷◌, ◌++◌, Some, length, take, filter, slice_get, get_or, refl, sym, ap, ap₂, ◌∙◌, subst, arith, append_assoc, length-append, if◌then◌else◌}
 use Rattle.std.specs.List.{filter_map}
 use Rattle.std.proofs.lemmas.List.{take_more, take_all}
-use Rattle.std.proofs.lemmas.List.Elements.{filter_map-append, filter-append, filter_agree}
+use Rattle.std.proofs.lemmas.List.Elements.{filter_map-append, filter_agree}
 use Rattle.plane_core.specs.declared.numbers.Plane.{Plane as BookPlane}
 use Rattle.plane_core.specs.declared.numbers.Corner.{Corner}
 use Rattle.plane_core.specs.declared.book.PlaneId.{PlaneId}
-use Rattle.convex_cycles.proofs.Lists.{Each, each_member, all_from_each}
-use Rattle.poly_frag.specs.Frags.{numbered, plane_at}
-use Rattle.corner_book.specs.Places.{is_on, is_on_both, places_from, places_where, AreOnLine}
-use Rattle.edge_cut.specs.declared.sides.Side.{Side}
+use Rattle.convex_cycles.proofs.Lists.{Each, all_from_each}
+use Rattle.poly_frag.specs.Frags.{numbered}
+use Rattle.corner_book.specs.Places.{is_on_both, places_from, places_where, AreOnLine}
 use Rattle.edge_cut.proofs.Outlined.{plane_here}
-use Rattle.edge_cut.specs.Stretches.{lies_on, is_on_line, is_between, is_inside}
+use Rattle.edge_cut.specs.Stretches.{lies_on, lies_on_both}
 
 abbrev pub found_at : List Corner → List ℕ → List Corner
 found_at cs places = filter_map (slice_get cs) places
@@ -41,7 +40,7 @@ places_below test (c ∷ cs) n m e = by (test c) (places_below test cs (n + 1) m
     by true rest = (omega (arith, e), rest)
     by false rest = rest
 
-both_filters : (p q : Corner → Bool) (cs : List Corner) → filter q (filter p cs) ≡ filter (λ c. p c && q c) cs
+pub both_filters : (p q : Corner → Bool) (cs : List Corner) → filter q (filter p cs) ≡ filter (λ c. p c && q c) cs
 both_filters p q [] = refl
 both_filters p q (c ∷ cs) = by (p c) (both_filters p q cs)
   where
@@ -49,42 +48,39 @@ both_filters p q (c ∷ cs) = by (p c) (both_filters p q cs)
     by true rest = ap₂ (λ (xs ys : List Corner). cond (q c) xs ys) (ap (λ (xs : List Corner). c ∷ xs) rest) rest
     by false rest = rest
 
--- ---- on the line of an edge
-module _ (planes : List BookPlane) (support : PlaneId) (s : Side) (cs : List Corner) (places : List ℕ) (p q : BookPlane) (first : slice_get planes support.k ≡ Some p) (second : slice_get planes s.edge.plane.k ≡ Some q)
-    (on : AreOnLine planes support.k s.edge.plane.k cs places) where
+-- ---- on the line of two planes
+module _ (planes : List BookPlane) (i j : PlaneId) (cs : List Corner) (places : List ℕ) (p q : BookPlane) (first : slice_get planes i.k ≡ Some p) (second : slice_get planes j.k ≡ Some q)
+    (on : AreOnLine planes i.k j.k cs places) where
   here : places ≡ places_where (is_on_both p q) cs
   here = on p q first second
 
-  pub place_below : (i : ℕ) → i < length places → get_or places i 0 < length cs
-  place_below i h = all_from_each (λ n. n < length cs) places (subst (Each (λ n. n < length cs)) (sym here) (places_below (is_on_both p q) cs 0 (length cs) (omega arith))) i 0 h
+  pub place_below : (n : ℕ) → n < length places → get_or places n 0 < length cs
+  place_below n h = all_from_each (λ n. n < length cs) places (subst (Each (λ n. n < length cs)) (sym here) (places_below (is_on_both p q) cs 0 (length cs) (omega arith))) n 0 h
 
-  pub found_line : filter (is_between planes s) (found_at cs places) ≡ filter (is_inside planes support s) cs
-  found_line = ap (λ ps. filter (is_between planes s) (found_at cs ps)) here
-      ∙ ap (filter (is_between planes s)) (found_places (is_on_both p q) [] cs 0 refl)
-      ∙ both_filters (is_on_both p q) (is_between planes s) cs
-      ∙ filter_agree (λ c. is_on_both p q c && is_between planes s c) (is_inside planes support s) (λ c. ap₂ (λ o r. (lies_on (numbered o) c && lies_on (numbered r) c) && is_between planes s c) (sym first) (sym second)) cs
+  pub found_line : found_at cs places ≡ filter (lies_on_both planes i j) cs
+  found_line = ap (found_at cs) here
+      ∙ found_places (is_on_both p q) [] cs 0 refl
+      ∙ filter_agree (is_on_both p q) (lies_on_both planes i j) (λ c. ap₂ (λ o r. lies_on (numbered o) c && lies_on (numbered r) c) (sym first) (sym second)) cs
 
 -- ---- one place more
 found_next : (cs : List Corner) (places : List ℕ) (i : ℕ) (c : Corner) → i < length places → slice_get cs (get_or places i 0) ≡ Some c → found_at cs (take (i + 1) places) ≡ found_at cs (take i places) ++ c ∷ []
 found_next cs places i c below e = ap (found_at cs) (take_more places i 0 below) ∙ filter_map-append (slice_get cs) (take i places) (get_or places i 0 ∷ []) ∙ ap (λ ds. found_at cs (take i places) ++ ds) (found_here cs (get_or places i 0) c [] e)
 
-pub kept_next : (test : Corner → Bool) (cs : List Corner) (places : List ℕ) (i : ℕ) (c : Corner) (wanted : Bool) (old new : List Corner) → i < length places → slice_get cs (get_or places i 0) ≡ Some c → wanted ≡ test c
-    → new ≡ old ++ cond wanted (c ∷ []) [] → old ≡ filter test (found_at cs (take i places)) → new ≡ filter test (found_at cs (take (i + 1) places))
-kept_next test cs places i c wanted old new below e pass items h =
-    items ∙ ap₂ (λ (ds : List Corner) b. ds ++ cond b (c ∷ []) []) h pass
-    ∙ sym (ap (filter test) (found_next cs places i c below e) ∙ filter-append test (found_at cs (take i places)) (c ∷ []))
+pub placed_next : (cs : List Corner) (places : List ℕ) (i : ℕ) (c : Corner) (old new : List Corner) → i < length places → slice_get cs (get_or places i 0) ≡ Some c
+    → new ≡ old ++ c ∷ [] → old ≡ found_at cs (take i places) → new ≡ found_at cs (take (i + 1) places)
+placed_next cs places i c old new below e items h = items ∙ ap (λ (ds : List Corner). ds ++ c ∷ []) h ∙ sym (found_next cs places i c below e)
 
 -- ---- of the places that were asked for
-pub line_below : (planes : List BookPlane) (support : PlaneId) (s : Side) (cs : List Corner) (items places : List ℕ) → items ≡ places → support.k < length planes → s.edge.plane.k < length planes → AreOnLine planes support.k s.edge.plane.k cs places
-    → (i : ℕ) → i < length items → get_or items i 0 < length cs
-line_below planes support s cs items places same hs he on i below =
-    let p = plane_here planes support hs in
-    let q = plane_here planes s.edge.plane he in
-    subst (λ ps. get_or ps i 0 < length cs) (sym same) (place_below planes support s cs places p.0 q.0 p.1 q.1 on i (subst (λ ps. i < length ps) same below))
+pub line_below : (planes : List BookPlane) (i j : PlaneId) (cs : List Corner) (items places : List ℕ) → items ≡ places → i.k < length planes → j.k < length planes → AreOnLine planes i.k j.k cs places
+    → (n : ℕ) → n < length items → get_or items n 0 < length cs
+line_below planes i j cs items places same hi hj on n below =
+    let p = plane_here planes i hi in
+    let q = plane_here planes j hj in
+    subst (λ ps. get_or ps n 0 < length cs) (sym same) (place_below planes i j cs places p.0 q.0 p.1 q.1 on n (subst (λ ps. n < length ps) same below))
 
-pub line_found : (planes : List BookPlane) (support : PlaneId) (s : Side) (cs : List Corner) (items places : List ℕ) (i : ℕ) (inside : List Corner) → items ≡ places → support.k < length planes → s.edge.plane.k < length planes
-    → AreOnLine planes support.k s.edge.plane.k cs places → length items ≤ i → inside ≡ filter (is_between planes s) (found_at cs (take i items)) → inside ≡ filter (is_inside planes support s) cs
-line_found planes support s cs items places i inside same hs he on all h =
-    let p = plane_here planes support hs in
-    let q = plane_here planes s.edge.plane he in
-    h ∙ ap (λ ps. filter (is_between planes s) (found_at cs ps)) (take_all i items all ∙ same) ∙ found_line planes support s cs places p.0 q.0 p.1 q.1 on
+pub line_found : (planes : List BookPlane) (i j : PlaneId) (cs : List Corner) (items places : List ℕ) (n : ℕ) (found : List Corner) → items ≡ places → i.k < length planes → j.k < length planes
+    → AreOnLine planes i.k j.k cs places → length items ≤ n → found ≡ found_at cs (take n items) → found ≡ filter (lies_on_both planes i j) cs
+line_found planes i j cs items places n found same hi hj on all h =
+    let p = plane_here planes i hi in
+    let q = plane_here planes j hj in
+    h ∙ ap (found_at cs) (take_all n items all ∙ same) ∙ found_line planes i j cs places p.0 q.0 p.1 q.1 on

@@ -1,3 +1,7 @@
+pub mod Reversed
+pub mod Places
+pub mod FirstUse
+pub mod Turned
 pub mod Orders
 pub mod Spellings
 pub mod Made
@@ -6,6 +10,9 @@ pub mod Gathered
 pub mod Found
 pub mod Rounded
 pub mod Sorted
+pub mod Ranges
 pub mod Steps
 pub mod Cutting
+pub mod Among
+pub mod LineBooks
 pub mod Meshed

@@ -1,5 +1,5 @@
 -- A mesh, made face by face; its corners are those of the pieces.
-use Rattle.std.proofs.Common.{◌≡◌, ◌⊎◌, inl, inr, ℕ, zero, suc, ◌+◌, ◌<◌, ◌≤◌, Bool, true, false, List, [], ◌∷◌, ◌++◌, Some, map, reverse, take, length, slice_get, get_or, All, Contains, Result, Ok, Err, IfOk, refl, sym, ap, ap₂, ◌∙◌, subst, arith}
+use Rattle.std.proofs.Common.{◌≡◌, ◌⊎◌, inl, inr, ℕ, ◌+◌, ◌<◌, ◌≤◌, Bool, true, false, List, [], ◌∷◌, ◌++◌, Some, map, reverse, take, length, slice_get, get_or, All, Contains, Result, Ok, Err, IfOk, sym, ap, ap₂, ◌∙◌, subst, arith}
 use Rattle.std.specs.Prelude.{◌↔◌}
 use Rattle.std.specs.List.{AllZip, flat_map}
 use Rattle.std.proofs.lemmas.List.{take_more, take_all, reverse-reverse}
@@ -9,7 +9,7 @@ use Rattle.spec_page.specs.Element.{Face}
 use Rattle.plane_core.specs.declared.numbers.Plane.{Plane as BookPlane}
 use Rattle.plane_core.specs.declared.numbers.Corner.{Corner}
 use Rattle.plane_core.specs.declared.book.PlaneId.{PlaneId}
-use Rattle.convex_cycles.proofs.Lists.{Each, Member, each_from_all, all_from_each, each_member, each_append, each_weaker, member_left, member_right}
+use Rattle.convex_cycles.proofs.Lists.{Each, Member, each_from_all, all_from_each, each_append, each_weaker, member_left, member_right}
 use Rattle.poly_frag.specs.Frags.{plane_at, kept_side}
 use Rattle.poly_frag.specs.Cycles.{IsCycle}
 use Rattle.poly_frag.proofs.CornerSigns.{contains_member, member_contains}
@@ -18,20 +18,16 @@ use Rattle.poly_frag.specs.declared.frag.Edge.{Edge}
 use Rattle.exact_mesh.specs.Meshes.{face_of}
 use Rattle.exact_mesh.specs.Order.{AreInFirstUse}
 use Rattle.exact_mesh.specs.declared.mesh.ExactMesh.{ExactMesh}
-use Rattle.piece_mesh.specs.Builders.{IsGrown}
-use Rattle.piece_mesh.specs.Pieces.{outer_side, edges_seen, corners_seen, AreAt}
-use Rattle.piece_mesh.proofs.Corners.{at_append}
-use Rattle.piece_mesh.proofs.Faces.{each_seen}
-use Rattle.piece_mesh.proofs.Order.{each_named}
-use Rattle.piece_mesh.proofs.Rows.{member_reverse}
-use Rattle.edge_cut.specs.declared.sides.Side.{Side}
+use Rattle.edge_cut.specs.Seen.{outer_side, edges_seen, corners_seen, AreAt}
+use Rattle.edge_cut.proofs.Places.{at_append}
+use Rattle.edge_cut.proofs.Reversed.{each_seen, member_reverse}
+use Rattle.edge_cut.proofs.FirstUse.{each_named}
 use Rattle.edge_cut.specs.declared.sides.Outline.{Outline}
 use Rattle.edge_cut.specs.declared.round.Round.{Round}
 use Rattle.edge_cut.specs.Sides.{AreSides}
 use Rattle.edge_cut.specs.Cuts.{CutSide, edges_along, corners_along, IsCutFaceOf, AreCutFacesOf}
 use Rattle.edge_cut.specs.Outlines.{IsOutlineOf, IsSideOfBook, IsOfBook, starts_of, HasCorners}
-use Rattle.edge_cut.specs.Rounds.{IsCut, IsRoundOf, IsFaceOf}
-use Rattle.edge_cut.specs.Stretches.{IsStretch}
+use Rattle.edge_cut.specs.Rounds.{IsCut, IsRoundOf, IsFaceOf, IsGrown}
 use Rattle.edge_cut.proofs.Outlined.{outline-IsOfBook}
 use Rattle.edge_cut.proofs.Cutting.{cuts-AreCut}
 

@@ -1,10 +1,8 @@
 -- The outline of a piece is of the book: the planes of its edges are there, and each edge starts where its planes meet.
-use Rattle.std.proofs.Common.{◌≡◌, ◌≢◌, ℕ, zero, suc, ◌<◌, List, [], ◌∷◌, ◌++◌, Option, Some, map, length, slice_get, get_or, refl, sym, ap, ◌∙◌, subst, arith}
+use Rattle.std.proofs.Common.{◌≡◌, ◌<◌, List, [], ◌∷◌, ◌++◌, Option, Some, map, length, slice_get, get_or, sym, ap, ◌∙◌, subst, arith}
 use Rattle.std.proofs.lemmas.Option.{slice_get-get_or}
 use Rattle.spec_space.specs.declared.Point.{Point}
 use Rattle.spec_space.specs.declared.Plane.{Plane}
-use Rattle.spec_space.specs.Points.{IsPoint, value}
-use Rattle.spec_space.specs.Sums.{IsSamePoint}
 use Rattle.spec_page.specs.Faces.{rotated}
 use Rattle.plane_core.specs.declared.numbers.Plane.{Plane as BookPlane}
 use Rattle.plane_core.specs.declared.numbers.Corner.{Corner}
@@ -12,18 +10,20 @@ use Rattle.plane_core.specs.declared.book.PlaneId.{PlaneId}
 use Rattle.plane_core.specs.Planes.{IsOnlyPointOf}
 use Rattle.plane_core.specs.Views.{plane_of, point_of}
 use Rattle.plane_core.proofs.Laws.{common_point_unique}
+use Rattle.convex_cycles.specs.Cycles.{IsEdgeOf}
 use Rattle.convex_cycles.proofs.Lists.{Each, each_from_all, all_from_each, each_from_map, each_both, each_weaker}
 use Rattle.poly_frag.specs.Frags.{numbered, plane_at, support_of}
-use Rattle.poly_frag.specs.Cycles.{IsCycle, IsMeetOf, AreMeets, AreMeetsRound, AreCorners, last_edge}
+use Rattle.poly_frag.specs.Cycles.{IsCycle, IsMeetOf, AreMeets, AreMeetsRound, last_edge}
 use Rattle.poly_frag.specs.declared.frag.Edge.{Edge}
 use Rattle.poly_frag.specs.declared.frag.Frag.{Frag}
 use Rattle.corner_book.specs.Corners.{MeetIn}
 use Rattle.face_walk.specs.declared.faces.OutFace.{OutFace}
-use Rattle.piece_mesh.proofs.Rows.{each_rotated, each_from_rotated}
+use Rattle.edge_cut.proofs.Reversed.{each_rotated, each_from_rotated}
 use Rattle.edge_cut.specs.declared.sides.Side.{Side}
 use Rattle.edge_cut.specs.declared.sides.Outline.{Outline}
-use Rattle.edge_cut.specs.Sides.{AreSides}
+use Rattle.edge_cut.specs.Sides.{AreSides, step_of}
 use Rattle.edge_cut.specs.Outlines.{IsOutlineOf, IsSideOfBook, IsOfBook}
+use Rattle.edge_cut.proofs.Steps.{steps_of, steps-AreConvex}
 
 -- ---- the edge before each edge
 -- each side has the edge of the one before it before its own; the first has b
@@ -118,6 +118,10 @@ pub outline-IsOfBook : (planes : List BookPlane) (o : OutFace) (w : Outline) →
 outline-IsOfBook planes o w cycle is = record {
   support = subst (λ id. id.k < length planes) (sym is.support) cycle.support_given;
   sides = all_from_each (IsSideOfBook planes) w.sides.items given;
+  edges = all_from_each (λ s. IsEdgeOf (plane_at planes w.support) (step_of planes s)) w.sides.items
+      (subst (λ id. Each (λ s. IsEdgeOf (plane_at planes id) (step_of planes s)) w.sides.items) (sym is.support)
+      (each_from_map (IsEdgeOf (support_of planes o.frag)) (step_of planes) w.sides.items
+      (each_from_all (IsEdgeOf (support_of planes o.frag)) (steps_of planes w.sides.items) (steps-AreConvex planes o.frag w.sides.items cycle is.sides).edges)));
   meet = all_from_each (λ s. MeetIn planes (w.support ∷ (s.before.plane ∷ (s.edge.plane ∷ []))) s.start) w.sides.items
       (each_weaker (λ s. IsSideOfBook planes s × IsMetAt planes (support_of planes o.frag) s) (λ s. MeetIn planes (w.support ∷ (s.before.plane ∷ (s.edge.plane ∷ []))) s.start)
       (λ s h. subst (λ id. MeetIn planes (id ∷ (s.before.plane ∷ (s.edge.plane ∷ []))) s.start) (sym is.support) (meet_in planes o.frag.support s.before.plane s.edge.plane s.start cycle.support_given h.0.before h.0.edge h.1))

@@ -1,6 +1,5 @@
--- A stretch of corners, sorted.
-use Rattle.std.proofs.Common.{◌≡◌, ◌≢◌, ℕ, ◌<◌, ◌≤◌, Bool, true, false, true≢false, List, [], ◌∷◌, length, reverse, filter, get_or, cond, Contains, AllPairs, inl, inr, refl, sym, ap, ◌∙◌, subst, arith}
-use Rattle.std.specs.Prelude.{◌↔◌}
+-- The corners on a line, sorted.
+use Rattle.std.proofs.Common.{◌≡◌, ◌≢◌, ℕ, ◌<◌, ◌≤◌, Bool, true, false, true≢false, List, [], ◌∷◌, filter, get_or, cond, AllPairs, inl, inr, refl, sym, ap, ◌∙◌, subst, arith}
 use denote.Param.Members.{Mut}
 use denote.Ref.{Bor}
 use Rattle.std.specs.Cmp.{IsStrictWeakOrder}
@@ -10,25 +9,23 @@ use Rattle.std.specs.declared.cmp.Ordering.{Ordering}
 use Rattle.std.specs.List.Sorted.{IsPermutation, IsSortedBy}
 use Rattle.std.proofs.lemmas.Fn.{always_returns_same}
 use Rattle.std.proofs.lemmas.List.Kept.{AllPairs-filter}
-use Rattle.std.proofs.lemmas.List.Sorted.{sorted_far, Contains-permutation, IsPermutation-sym, IsPermutation-trans, IsPermutation-reverse}
+use Rattle.std.proofs.lemmas.List.Sorted.{sorted_far, Contains-permutation, IsPermutation-sym}
 use Rattle.std.proofs.lemmas.Map.Keys.{IsDistinct-IsPermutation}
 use Rattle.std.proofs.lemmas.Map.Made.{AllPairs-from_IsDistinct, IsDistinct-from_AllPairs}
-use Rattle.spec_space.specs.Sums.{IsSamePoint}
 use Rattle.plane_core.specs.declared.numbers.Plane.{Plane as BookPlane}
 use Rattle.plane_core.specs.declared.numbers.Corner.{Corner}
-use Rattle.plane_core.specs.declared.book.PlaneId.{PlaneId}
-use Rattle.convex_cycles.proofs.Lists.{Member, pair_from_all, all_from_pair}
+use Rattle.convex_cycles.proofs.Lists.{Member}
 use Rattle.corner_book.specs.Corners.{AreDistinct}
 use Rattle.corner_book.proofs.Same.{corner_eq, corner_eq-Decides}
-use Rattle.line_turns.proofs.CutLists.{pair_reverse}
 use Rattle.poly_frag.proofs.CornerSigns.{contains_member, member_contains}
-use Rattle.edge_cut.specs.declared.sides.Side.{Side}
-use Rattle.edge_cut.specs.Stretches.{comes_before, is_inside, IsStretch}
+use Rattle.edge_cut.specs.declared.lines.LineId.{LineId}
+use Rattle.edge_cut.specs.Stretches.{comes_before, lies_on_both}
+use Rattle.edge_cut.specs.Lines.{IsLineOf}
 use Rattle.edge_cut.proofs.Orders.{order-IsStrictWeakOrder, comes_first}
 use Rattle.edge_cut.proofs.Spellings.{one_corner}
 
 -- ---- members of a filtered list
-member_filter : (p : Corner → Bool) (c : Corner) (cs : List Corner) → Member c (filter p cs) → Member c cs × (p c ≡ true)
+pub member_filter : (p : Corner → Bool) (c : Corner) (cs : List Corner) → Member c (filter p cs) → Member c cs × (p c ≡ true)
 member_filter p c [] m = absurd m
 member_filter p c (d ∷ cs) m = by (p d) refl (member_filter p c cs) m
   where
@@ -37,7 +34,7 @@ member_filter p c (d ∷ cs) m = by (p d) refl (member_filter p c cs) m
     by true e rest (inr m) = let r = rest m in (inr r.0, r.1)
     by false e rest m = let r = rest m in (inr r.0, r.1)
 
-filter_member : (p : Corner → Bool) (c : Corner) (cs : List Corner) → Member c cs → p c ≡ true → Member c (filter p cs)
+pub filter_member : (p : Corner → Bool) (c : Corner) (cs : List Corner) → Member c cs → p c ≡ true → Member c (filter p cs)
 filter_member p c [] m e = absurd m
 filter_member p c (d ∷ cs) m e = by (p d) refl (λ later. filter_member p c cs later e) m
   where
@@ -74,27 +71,17 @@ pub sorted_by : {F : Type 0} {g : Mut F (Bor Corner × (Bor Corner × Unit {0}))
     → ((a : Bor Corner × (Bor Corner × Unit {0})) (r : Ordering) (f' : F) → Called g f a r f' → (is_lt r ≡ comes_before a.0.now a.1.0.now) × (f' ≡ f)) → IsSortedBy comes_before cs
 sorted_by {g = g} {f = f} cs sorted h = sorted comes_before order-IsStrictWeakOrder (always_returns_same g (λ a r. is_lt r ≡ comes_before a.0.now a.1.0.now) f h)
 
--- ---- the stretch
-
-module _ (planes : List BookPlane) (cs : List Corner) (support : PlaneId) (s : Side) (found sorted : List Corner) (distinct : AreDistinct cs) (are : found ≡ filter (is_inside planes support s) cs)
-    (perm : IsPermutation found sorted) (up : IsSortedBy comes_before sorted) where
-  risen : AllPairs (λ c d. comes_before c d ≡ true) sorted
-  risen = rises sorted (distinct_kept found sorted perm (subst AreDistinct (sym are) (AllPairs-filter (λ c d. c ≢ d) (is_inside planes support s) cs distinct))) up
-
-  all_there : (inside : List Corner) → IsPermutation found inside → (c : Corner) → Contains inside c ↔ (Contains cs c × (is_inside planes support s c ≡ true))
-  all_there inside moved c = (
-    λ m.
-        let r = member_filter (is_inside planes support s) c cs (subst (Member c) are (contains_member c found (Contains-permutation inside found c (IsPermutation-sym found inside moved) m))) in
-        (member_contains c cs r.0, r.1),
-    λ h. Contains-permutation found inside c moved (member_contains c found (subst (Member c) (sym are) (filter_member (is_inside planes support s) c cs (contains_member c cs h.0) h.1))),
-  )
-
-  pub rising-IsStretch : comes_before s.end s.start ≡ false → IsStretch planes cs support s sorted
-  rising-IsStretch flag = record { all = all_there sorted perm; rising = λ e. risen; falling = λ e. absurd (true≢false (sym e ∙ flag)) }
-
-  pub falling-IsStretch : comes_before s.end s.start ≡ true → (inside : List Corner) → inside ≡ reverse sorted → IsStretch planes cs support s inside
-  falling-IsStretch flag inside turned = subst (IsStretch planes cs support s) (sym turned) (record {
-    all = all_there (reverse sorted) (IsPermutation-trans found sorted (reverse sorted) perm (IsPermutation-reverse sorted));
-    rising = λ e. absurd (true≢false (sym flag ∙ e));
-    falling = λ e. all_from_pair (λ c d. comes_before d c ≡ true) (reverse sorted) (pair_reverse (λ c d. comes_before c d ≡ true) sorted (pair_from_all (λ c d. comes_before c d ≡ true) sorted risen));
-  })
+-- ---- the line
+pub sorted-IsLineOf : (planes : List BookPlane) (cs : List Corner) (id : LineId) (found sorted : List Corner) → AreDistinct cs → found ≡ filter (lies_on_both planes id.first id.second) cs
+    → IsPermutation found sorted → IsSortedBy comes_before sorted → IsLineOf planes cs id sorted
+sorted-IsLineOf planes cs id found sorted distinct are perm up =
+    let on = lies_on_both planes id.first id.second in
+    record {
+      all = λ c. (
+        λ m.
+            let r = member_filter on c cs (subst (Member c) are (contains_member c found (Contains-permutation sorted found c (IsPermutation-sym found sorted perm) m))) in
+            (member_contains c cs r.0, r.1),
+        λ h. Contains-permutation found sorted c perm (member_contains c found (subst (Member c) (sym are) (filter_member on c cs (contains_member c cs h.0) h.1))),
+      );
+      rising = rises sorted (distinct_kept found sorted perm (subst AreDistinct (sym are) (AllPairs-filter (λ c d. c ≢ d) on cs distinct))) up;
+    }

@@ -1,5 +1,5 @@
 -- The edges of a piece as the steps of a convex cycle between its corners.
-use Rattle.std.proofs.Common.{◌≡◌, ◌⊎◌, inl, inr, List, [], ◌∷◌, ◌++◌, map, ℤ, pos, neg_ℤ, ◌*ℤ◌, ◌<ℤ◌, refl, sym, ap, ◌∙◌, subst, arith}
+use Rattle.std.proofs.Common.{◌≡◌, inl, inr, List, [], ◌∷◌, ◌++◌, map, ℤ, pos, ◌*ℤ◌, ◌<ℤ◌, refl, sym, ap, ◌∙◌, subst, arith}
 use Rattle.std.proofs.lemmas.Int.{ints}
 use Rattle.std.specs.List.{AllZip}
 use Rattle.integer_laws.proofs.Ring.{var, ◌⊗◌, ring, *ℤ_comm}
@@ -13,20 +13,16 @@ use Rattle.spec_page.specs.Faces.{rotated}
 use Rattle.plane_core.specs.declared.numbers.Plane.{Plane as BookPlane}
 use Rattle.plane_core.specs.declared.numbers.Corner.{Corner}
 use Rattle.plane_core.specs.Views.{point_of}
-use Rattle.convex_cycles.specs.Cycles.{Step, IsEdgeOf, Follows, AreChained, IsRound, Keeps, KeepEachOther, AreConvex, turn}
-use Rattle.convex_cycles.proofs.CutCycles.{CycleFacts, to_cycle, from_cycle}
+use Rattle.convex_cycles.specs.Cycles.{Step, IsEdgeOf, AreChained, IsRound, Keeps, KeepEachOther, AreConvex, turn}
+use Rattle.convex_cycles.proofs.CutCycles.{to_cycle, from_cycle}
 use Rattle.convex_cycles.proofs.Lists.{Each, EachPair}
-use Rattle.poly_frag.specs.Frags.{side_of, sides_of, support_of}
+use Rattle.poly_frag.specs.Frags.{side_of, support_of}
 use Rattle.poly_frag.specs.Cycles.{IsCycle}
-use Rattle.poly_frag.specs.declared.frag.Edge.{Edge}
 use Rattle.poly_frag.specs.declared.frag.Frag.{Frag}
 use Rattle.poly_frag.proofs.Starts.{AreStarts, starts_of, same_values}
 use Rattle.edge_cut.specs.declared.sides.Side.{Side}
-use Rattle.edge_cut.specs.Sides.{AreSides}
+use Rattle.edge_cut.specs.Sides.{AreSides, step_of}
 use Rattle.edge_cut.proofs.Spellings.{one_corner}
-
-abbrev pub step_of : List BookPlane → Side → Step
-step_of planes s = record { prev = side_of planes s.before; side = side_of planes s.edge; next = side_of planes s.after; start = point_of s.start; end = point_of s.end }
 
 abbrev pub steps_of : List BookPlane → List Side → List Step
 steps_of planes sides = map (step_of planes) sides

@@ -1,7 +1,6 @@
 -- Faces whose edges are cut at the corners on them.
 use Rattle.std.specs.Prelude.{◌≡◌, ◌↔◌, pos, ◌<ℤ◌, List, ◌∷◌, map, All, AllPairs, Contains}
 use Rattle.std.specs.List.{AllZip, flat_map}
-use Rattle.spec_space.specs.declared.Point.{Point}
 use Rattle.spec_space.specs.Points.{dot, value, way_between}
 use Rattle.spec_page.specs.Element.{Face}
 use Rattle.plane_core.specs.declared.numbers.Plane.{Plane as BookPlane}
@@ -11,7 +10,7 @@ use Rattle.plane_core.specs.Views.{point_of}
 use Rattle.poly_frag.specs.Frags.{plane_at, kept_side, side_of, support_of}
 use Rattle.poly_frag.specs.declared.frag.Edge.{Edge}
 use Rattle.face_walk.specs.declared.faces.OutFace.{OutFace}
-use Rattle.piece_mesh.specs.Pieces.{outer_side, edges_seen, corners_seen, AreAt}
+use Rattle.edge_cut.specs.Seen.{outer_side, edges_seen, corners_seen, AreAt}
 use Rattle.edge_cut.specs.declared.sides.Side.{Side}
 use Rattle.edge_cut.specs.Sides.{AreSides}
 

@@ -7,7 +7,7 @@ use Rattle.plane_core.specs.declared.numbers.Corner.{Corner}
 use Rattle.plane_core.specs.declared.book.PlaneId.{PlaneId}
 use Rattle.poly_frag.specs.Frags.{plane_at, kept_side}
 use Rattle.exact_mesh.specs.Meshes.{face_of}
-use Rattle.piece_mesh.specs.Pieces.{outer_side, edges_seen, corners_seen, AreAt}
+use Rattle.edge_cut.specs.Seen.{outer_side, edges_seen, corners_seen, AreAt}
 use Rattle.edge_cut.specs.declared.sides.Side.{Side}
 use Rattle.edge_cut.specs.declared.sides.Outline.{Outline}
 use Rattle.edge_cut.specs.declared.round.Round.{Round}
@@ -49,3 +49,7 @@ corners_of b = b.corners.keys
 
 abbrev pub faces_of : MeshBuilder → List Face
 faces_of b = map face_of b.faces.items
+
+-- the old corners have kept their places, and new ones stand behind them
+abbrev pub IsGrown : List Corner → List Corner → Type 0
+IsGrown old new = (more : List Corner) × (new ≡ old ++ more)

@@ -16,6 +16,10 @@ use Rattle.edge_cut.specs.declared.sides.Side.{Side}
 abbrev pub comes_before : Corner → Corner → Bool
 comes_before c d = is_lt (point_cmp (point_of c) (point_of d))
 
+-- c comes after one corner and before another one
+abbrev pub is_among : Corner → Corner → Corner → Bool
+is_among low high c = comes_before low c && comes_before c high
+
 -- the corner is strictly inside the sides that the edges before and after keep
 abbrev pub is_between : List BookPlane → Side → Corner → Bool
 is_between planes s c = is_in_front (side_of planes s.before) (point_of c) && is_in_front (side_of planes s.after) (point_of c)
@@ -24,9 +28,13 @@ is_between planes s c = is_in_front (side_of planes s.before) (point_of c) && is
 abbrev pub lies_on : Plane → Corner → Bool
 lies_on h c = int_eq (value h (point_of c)) (pos 0)
 
+-- the corner is on the planes of two numbers
+abbrev pub lies_on_both : List BookPlane → PlaneId → PlaneId → Corner → Bool
+lies_on_both planes p q c = lies_on (plane_at planes p) c && lies_on (plane_at planes q) c
+
 -- the corner is on the planes of the piece and of the edge
 abbrev pub is_on_line : List BookPlane → PlaneId → Side → Corner → Bool
-is_on_line planes support s c = lies_on (plane_at planes support) c && lies_on (plane_at planes s.edge.plane) c
+is_on_line planes support s c = lies_on_both planes support s.edge.plane c
 
 -- the corner lies on the edge and is neither of its ends
 abbrev pub is_inside : List BookPlane → PlaneId → Side → Corner → Bool

@@ -5,11 +5,12 @@ ghost use Rattle.corner_book.specs.Corners.{AreDistinct, corners_of as book_corn
 ghost use Rattle.exact_mesh.specs.Meshes.{face_of, numbered_plane};
 ghost use Rattle.exact_mesh.specs.Order.{NamesNext, AreInFirstUse};
 ghost use Rattle.poly_frag.specs.Frags.{kept_side};
-ghost use Rattle.piece_mesh.specs.Builders.{IsGrown};
-ghost use Rattle.piece_mesh.specs.Pieces.{AreAt, outer_side, edges_seen, corners_seen};
+ghost use Rattle.edge_cut.specs.Seen.{AreAt, outer_side, edges_seen, corners_seen};
+ghost use Rattle.edge_cut.specs.Lines.{AreLines};
 ghost use Rattle.edge_cut.specs.Outlines.{IsOfBook};
-ghost use Rattle.edge_cut.specs.Rounds.{corners_of, faces_of, IsFaceOf};
+ghost use Rattle.edge_cut.specs.Rounds.{corners_of, faces_of, IsFaceOf, IsGrown};
 
+use crate::lines::Lines;
 use crate::round::{Round, cut_round};
 use crate::sides::Outline;
 use corner_book::CornerBook;
@@ -88,16 +89,19 @@ impl MeshBuilder {
         alloc: Global,
         book: &PlaneBook,
         corners: &CornerBook,
+        lines: &mut Lines,
         outline: &Outline,
     ) -> Result<(), AllocError>
         requires made { IsMadeWith book.now corners.now }
+        requires lines { AreLines book.now (book_corners corners.now) lines.old }
         requires given { IsOfBook book.now outline.now }
         ensures face { OnOk result ((face : Face) × (faces_of self.new ≡ faces_of self.old ++ face ∷ []) × IsFaceOf book.now (book_corners corners.now) (corners_of self.new) outline.now face) }
+        ensures lines { OnOk result (AreLines book.now (book_corners corners.now) lines.new) }
         ensures grown { IsGrown (corners_of self.old) (corners_of self.new) }
         ensures order { OnOk result (AreInFirstUse (corners_of self.old) (faces_of self.old) → AreInFirstUse (corners_of self.new) (faces_of self.new)) }
     {
         let plane = outward_numbers(book.plane(outline.support), outline.front_out);
-        let mut round = cut_round(alloc, book, corners, outline)?;
+        let mut round = cut_round(alloc, book, corners, lines, outline)?;
         turn(&mut round, outline.front_out);
         let edges = outer_planes(alloc, book, &round.edges)?;
         let places = self.places(alloc, &round.corners)?;

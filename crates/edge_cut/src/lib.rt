@@ -4,6 +4,7 @@
 mod builder;
 mod gather;
 mod inside;
+mod lines;
 mod mesh;
 mod outlines;
 mod round;

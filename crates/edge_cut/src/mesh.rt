@@ -10,6 +10,7 @@ ghost use Rattle.edge_cut.specs.Rounds.{IsFaceOf};
 
 use crate::builder::MeshBuilder;
 use crate::gather::gather;
+use crate::lines::Lines;
 use crate::outlines::outlines;
 use crate::sides::Outline;
 use corner_book::CornerBook;
@@ -31,9 +32,10 @@ fn build(
     ensures distinct { IfOk result (λ mesh. AreDistinct mesh.corners.items) }
     ensures order { IfOk result (λ mesh. AreInFirstUse mesh.corners.items (map face_of mesh.faces.items)) }
 {
+    let mut lines = Lines::new(alloc);
     let mut builder = MeshBuilder::new(alloc);
     for outline in outlines {
-        builder.add_face(alloc, book, corners, outline)?;
+        builder.add_face(alloc, book, corners, &mut lines, outline)?;
     }
     builder.finish(alloc)
 }

@@ -1,9 +1,14 @@
 ghost use Rattle.std.specs.Prelude.{◌≡◌, ◌<◌, ◌++◌, ◌∷◌, [], length, map, IfOk, OnOk};
+ghost use Rattle.poly_frag.specs.Frags.{plane_at};
+ghost use Rattle.convex_cycles.specs.Cycles.{IsEdgeOf};
 ghost use Rattle.corner_book.specs.Corners.{corners_of, IsMadeWith};
+ghost use Rattle.edge_cut.specs.Sides.{step_of};
 ghost use Rattle.edge_cut.specs.Outlines.{IsSideOfBook, IsOfBook};
+ghost use Rattle.edge_cut.specs.Lines.{AreLines};
 ghost use Rattle.edge_cut.specs.Rounds.{HasCut, IsRoundOf};
 
 use crate::inside::stretch;
+use crate::lines::Lines;
 use crate::sides::{Outline, Side};
 use corner_book::CornerBook;
 use plane_core::{Corner, PlaneBook, PlaneId};
@@ -45,15 +50,19 @@ impl Round {
         alloc: Global,
         book: &PlaneBook,
         corners: &CornerBook,
+        lines: &mut Lines,
         support: PlaneId,
         side: &Side,
     ) -> Result<(), AllocError>
         requires made { IsMadeWith book.now corners.now }
+        requires lines { AreLines book.now (corners_of corners.now) lines.old }
         requires support { support.k < length book.now }
         requires given { IsSideOfBook book.now side.now }
-        ensures { OnOk result (HasCut book.now (corners_of corners.now) support side.now self.old self.new) }
+        requires edge { IsEdgeOf (plane_at book.now support) (step_of book.now side.now) }
+        ensures cut { OnOk result (HasCut book.now (corners_of corners.now) support side.now self.old self.new) }
+        ensures lines { OnOk result (AreLines book.now (corners_of corners.now) lines.new) }
     {
-        let inside = stretch(alloc, book, corners, support, side)?;
+        let inside = stretch(alloc, book, corners, lines, support, side)?;
         self.push(side.edge, side.start)?;
         self.push_all(side.edge, &inside)?;
         Ok(())
@@ -65,18 +74,21 @@ pub(crate) fn cut_round(
     alloc: Global,
     book: &PlaneBook,
     corners: &CornerBook,
+    lines: &mut Lines,
     outline: &Outline,
 ) -> Result<Round, AllocError>
     requires made { IsMadeWith book.now corners.now }
+    requires lines { AreLines book.now (corners_of corners.now) lines.old }
     requires given { IsOfBook book.now outline.now }
-    ensures { IfOk result (IsRoundOf book.now (corners_of corners.now) outline.now) }
+    ensures round { IfOk result (IsRoundOf book.now (corners_of corners.now) outline.now) }
+    ensures lines { OnOk result (AreLines book.now (corners_of corners.now) lines.new) }
 {
     let mut round = Round {
         edges: Vec::new(alloc),
         corners: Vec::new(alloc),
     };
     for side in &outline.sides {
-        round.add(alloc, book, corners, outline.support, side)?;
+        round.add(alloc, book, corners, lines, outline.support, side)?;
     }
     Ok(round)
 }

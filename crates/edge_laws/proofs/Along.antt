@@ -14,7 +14,7 @@ use Rattle.line_turns.proofs.Along.{own_way, turned_down, dot_swapped}
 use Rattle.line_turns.proofs.Between.{IsAfter}
 use Rattle.line_turns.proofs.Rising.{AreOneWay, one_way}
 use Rattle.line_turns.proofs.Runs.{way_of, way_on}
-use Rattle.piece_mesh.proofs.Along.{along_front}
+use Rattle.edge_laws.proofs.Runs.{along_front}
 
 moved : (k d x : ℤ) → k *ℤ (d *ℤ x) ≡ d *ℤ (k *ℤ x)
 moved k d x = ring (k ∷ (d ∷ (x ∷ []))) (var 0 ⊗ (var 1 ⊗ var 2)) (var 1 ⊗ (var 0 ⊗ var 2)) refl

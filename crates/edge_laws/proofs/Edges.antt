@@ -24,7 +24,7 @@ use Rattle.line_turns.proofs.Rising.{none_between}
 use Rattle.line_turns.proofs.Runs.{way_of}
 use Rattle.edge_cut.specs.declared.sides.Side.{Side}
 use Rattle.edge_cut.specs.Cuts.{IsInsideEdge, CutSide, ComesAfter, IsCutAt}
-use Rattle.edge_cut.proofs.Steps.{step_of}
+use Rattle.edge_cut.specs.Sides.{step_of}
 use Rattle.edge_cut.proofs.Cutting.{on_kept_side}
 use Rattle.edge_laws.proofs.Named.{place_of, point_at, point_by, point-at_place, at-Member, corner_at, chain_of, chain_end}
 

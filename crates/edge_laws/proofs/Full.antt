@@ -17,10 +17,10 @@ use Rattle.poly_frag.specs.Frags.{kept_side, support_of}
 use Rattle.poly_frag.specs.Cycles.{IsCycle}
 use Rattle.poly_frag.specs.declared.frag.Frag.{Frag}
 use Rattle.face_walk.specs.declared.faces.OutFace.{OutFace}
-use Rattle.piece_mesh.specs.Pieces.{outer_side, edges_seen, corners_seen, AreAt}
-use Rattle.piece_mesh.proofs.Faces.{HasCorners, same_count}
-use Rattle.piece_mesh.proofs.Rings.{HasBehind, IsRing}
-use Rattle.piece_mesh.proofs.Rows.{Rows, map-reverse, map-rotated}
+use Rattle.edge_cut.specs.Seen.{outer_side, edges_seen, corners_seen, AreAt}
+use Rattle.edge_laws.proofs.FrontRings.{HasBehind, IsRing}
+use Rattle.edge_laws.proofs.Rows.{Rows}
+use Rattle.edge_cut.proofs.Reversed.{map-reverse, map-rotated}
 use Rattle.edge_cut.specs.Cuts.{CutSide, edges_along, corners_along, IsCutAt, IsCutFaceOf, AreCutFacesOf}
 use Rattle.edge_laws.proofs.Rings.{cut_ring, turned_cut_ring}
 
@@ -67,6 +67,13 @@ get_below : (corners : List Corner) (i : ℕ) (c : Corner) → slice_get corners
 get_below [] i c e = cc
 get_below (x ∷ xs) zero c e = omega arith
 get_below (x ∷ xs) (suc i) c e = let h = get_below xs i c e in omega arith
+
+-- its exact corners are these, in order
+abbrev pub HasCorners : Element → List Corner → Type 0
+HasCorners e corners = map (λ c. c.exact) e.corners ≡ map point_of corners
+
+same_count : (e : Element) (corners : List Corner) → HasCorners e corners → length e.corners ≡ length corners
+same_count e corners same = sym (length-map e.corners (λ (c : PageCorner). c.exact)) ∙ ap length same ∙ length-map corners point_of
 
 module _ (e : Element) (corners : List Corner) (same : HasCorners e corners) where
   point_at : (i : ℕ) (c : Corner) → slice_get corners i ≡ Some c → (corner_at e i).exact ≡ point_of c

@@ -6,6 +6,9 @@ pub mod Edges
 pub mod Rounds
 pub mod Shown
 pub mod Balance
+pub mod Rows
+pub mod Runs
+pub mod FrontRings
 pub mod Along
 pub mod Rings
 pub mod Full

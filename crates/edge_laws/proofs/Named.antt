@@ -10,7 +10,7 @@ use Rattle.line_turns.proofs.Chains.{last_from}
 use Rattle.line_turns.proofs.Rounds.{front_from}
 use Rattle.edge_cut.specs.Cuts.{CutSide, corners_along}
 use Rattle.corner_book.proofs.Same.{corner_eq, corner_eq-Decides}
-use Rattle.piece_mesh.specs.Pieces.{AreAt}
+use Rattle.edge_cut.specs.Seen.{AreAt}
 
 -- the place of a corner
 abbrev pub place_of : List Corner → Corner → ℕ

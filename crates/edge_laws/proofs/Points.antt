@@ -18,9 +18,8 @@ use Rattle.poly_frag.specs.Frags.{kept_side, side_of, sides_of, support_of, IsIn
 use Rattle.poly_frag.specs.declared.frag.Edge.{Edge}
 use Rattle.poly_frag.proofs.Starts.{on_plane}
 use Rattle.face_walk.specs.declared.faces.OutFace.{OutFace}
-use Rattle.piece_mesh.specs.Pieces.{outer_side, edges_seen}
-use Rattle.piece_mesh.proofs.Faces.{each_seen}
-use Rattle.piece_mesh.proofs.Rows.{each_from_reverse, each_from_rotated}
+use Rattle.edge_cut.specs.Seen.{outer_side, edges_seen}
+use Rattle.edge_cut.proofs.Reversed.{each_seen, each_from_reverse, each_from_rotated}
 use Rattle.edge_cut.specs.Cuts.{CutSide, edges_along, corners_along, IsCutFaceOf}
 use Rattle.edge_cut.proofs.Cutting.{on_kept_side}
 

@@ -23,14 +23,15 @@ use Rattle.line_turns.proofs.Along.{after_once}
 use Rattle.line_turns.proofs.Chains.{pairs_from, each_pairs}
 use Rattle.line_turns.proofs.CutLists.{each_next, pair_split}
 use Rattle.line_turns.proofs.Pieces.{IsInsideEdge, kept_inside}
-use Rattle.piece_mesh.specs.Pieces.{outer_side}
-use Rattle.piece_mesh.proofs.Rings.{HasBehind, IsRing, front_ring}
-use Rattle.piece_mesh.proofs.Rows.{Rows, rows_same, rows_turned, map-append, map-rotated, each_reverse, each_rotated, member_reverse, pair_reverse}
+use Rattle.edge_cut.specs.Seen.{outer_side}
+use Rattle.edge_laws.proofs.FrontRings.{HasBehind, IsRing, front_ring}
+use Rattle.edge_laws.proofs.Rows.{Rows, rows_append, rows_same, rows_turned}
+use Rattle.edge_cut.proofs.Reversed.{map-append, map-rotated, each_reverse, each_rotated, member_reverse, pair_reverse}
 use Rattle.edge_cut.specs.declared.sides.Side.{Side}
-use Rattle.edge_cut.specs.Sides.{AreSides}
+use Rattle.edge_cut.specs.Sides.{AreSides, step_of}
 use Rattle.edge_cut.specs.Cuts.{CutSide, edges_along, corners_along, IsCutAt}
 use Rattle.edge_cut.proofs.Meshed.{start_along}
-use Rattle.edge_cut.proofs.Steps.{step_of, steps_of, steps-AreConvex, AreChainedSides, round_sides}
+use Rattle.edge_cut.proofs.Steps.{steps_of, steps-AreConvex, AreChainedSides, round_sides}
 use Rattle.edge_laws.proofs.Along.{part_along, along_turned}
 use Rattle.edge_laws.proofs.Edges.{After, OnEdge, order, all_on, inside, inside_on}
 use Rattle.edge_laws.proofs.Shown.{starts_same, pair_from_map}
@@ -61,11 +62,6 @@ each_edge P planes (k ∷ ks) h = subst (Each P) (sym (map-append (outer_side pl
     one : (cs : List Corner) → P (outer_side planes k.side.edge) → Each P (map (outer_side planes) (map (λ c. k.side.edge) cs))
     one [] p = tt
     one (c ∷ cs) p = (p, one cs p)
-
-rows_append : {X Y : Type 0} (R : X → Y → Y → Type 0) (ms ns : List X) (us ss vs ts : List Y) → Rows R ms us vs → Rows R ns ss ts → Rows R (ms ++ ns) (us ++ ss) (vs ++ ts)
-rows_append R [] ns [] ss [] ts r q = q
-rows_append R (m ∷ ms) ns (u ∷ us) ss (v ∷ vs) ts r q = (r.0, rows_append R ms ns us ss vs ts r.1 q)
-rows_append R _ ns _ ss _ ts r q = absurd r
 
 pair_to_map : {X Y : Type 0} (R : Y → Y → Type 0) (f : X → Y) (xs : List X) → EachPair (λ x y. R (f x) (f y)) xs → EachPair R (map f xs)
 pair_to_map R f [] e = tt

@@ -14,12 +14,12 @@ use Rattle.poly_frag.specs.declared.frag.Frag.{Frag}
 use Rattle.line_turns.proofs.Chains.{last_from}
 use Rattle.line_turns.proofs.Rounds.{front_from, AreLinked, fronts}
 use Rattle.line_turns.proofs.EdgeCounts.{places_seen}
-use Rattle.piece_mesh.specs.Pieces.{corners_seen, AreAt}
-use Rattle.piece_mesh.proofs.Rows.{map-append, map-reverse}
+use Rattle.edge_cut.specs.Seen.{corners_seen, AreAt}
+use Rattle.edge_cut.proofs.Reversed.{map-append, map-reverse}
 use Rattle.edge_cut.specs.declared.sides.Side.{Side}
-use Rattle.edge_cut.specs.Sides.{AreSides}
+use Rattle.edge_cut.specs.Sides.{AreSides, step_of}
 use Rattle.edge_cut.specs.Cuts.{CutSide, corners_along}
-use Rattle.edge_cut.proofs.Steps.{step_of, steps_of, AreChainedSides, round_sides}
+use Rattle.edge_cut.proofs.Steps.{steps_of, AreChainedSides, round_sides}
 use Rattle.edge_laws.proofs.Named.{place_of, places_are, chain_of, chain_end, chain_front}
 
 -- ---- the chain that begins at a point

@@ -23,15 +23,15 @@ use Rattle.line_turns.proofs.Pieces.{up_from_start}
 use Rattle.face_walk.specs.declared.faces.OutFace.{OutFace}
 use Rattle.face_walk.specs.Faces.{IsFace}
 use Rattle.tree_pool.specs.Trees.{Tree}
-use Rattle.piece_mesh.specs.Pieces.{corners_seen, AreAt}
-use Rattle.piece_mesh.proofs.Rings.{front_ring}
-use Rattle.piece_mesh.proofs.Rows.{each_rotated}
+use Rattle.edge_cut.specs.Seen.{corners_seen, AreAt}
+use Rattle.edge_laws.proofs.FrontRings.{front_ring}
+use Rattle.edge_cut.proofs.Reversed.{each_rotated}
 use Rattle.edge_cut.specs.declared.sides.Side.{Side}
-use Rattle.edge_cut.specs.Sides.{AreSides}
+use Rattle.edge_cut.specs.Sides.{AreSides, step_of}
 use Rattle.edge_cut.specs.Cuts.{CutSide, corners_along, IsInsideEdge, IsCutAt, IsCutFaceOf}
 use Rattle.edge_cut.proofs.Cutting.{on_kept_side}
 use Rattle.edge_cut.proofs.Meshed.{seen_member, start_along}
-use Rattle.edge_cut.proofs.Steps.{step_of, steps_of, steps-AreConvex}
+use Rattle.edge_cut.proofs.Steps.{steps_of, steps-AreConvex}
 use Rattle.edge_laws.proofs.Edges.{all_in, chain-IsCut}
 use Rattle.edge_laws.proofs.Named.{place_of, point_at, at_place, point-at_place, seen_members, chain_of}
 use Rattle.edge_laws.proofs.Room.{room, range_room}

@@ -51,3 +51,7 @@ all_simple section ns pass = All-weaker (λ n. has_element_kind section n ≡ tr
 pub elements_simple : {E A : Type 0} (section : DataSection) (r : Result (Vec ℕ A) E) → IfOk r (λ numbers. numbers.items ≡ elements section) → IfOk r (λ numbers. All (IsSimple section) numbers.items)
 elements_simple section (Ok numbers) e = subst (All (IsSimple section)) (sym e) (all_simple section (elements section) (filter_passes (has_element_kind section) (numbers_of section)))
 elements_simple section (Err error) e = tt
+
+pub elements_kinds : {E A : Type 0} (section : DataSection) (r : Result (Vec ℕ A) E) → IfOk r (λ numbers. numbers.items ≡ elements section) → IfOk r (λ numbers. All (λ n. has_element_kind section n ≡ true) numbers.items)
+elements_kinds section (Ok numbers) e = subst (All (λ n. has_element_kind section n ≡ true)) (sym e) (filter_passes (has_element_kind section) (numbers_of section))
+elements_kinds section (Err error) e = tt

@@ -1,10 +1,10 @@
-ghost use Rattle.std.specs.Prelude.{◌≡◌, All, IfOk, filter, map};
+ghost use Rattle.std.specs.Prelude.{◌≡◌, true, All, IfOk, filter, map};
 ghost use Rattle.spec_table.specs.Sections.{IsSimple};
-ghost use Rattle.spec_entity.specs.Reads.{is_one_of};
+ghost use Rattle.spec_entity.specs.Reads.{has_kind, is_one_of};
 ghost use Rattle.spec_entity.specs.Elements.{has_element_kind, elements};
 
-use crate::kinds::is_one_of;
-use ifc_kinds::element_kinds;
+use crate::kinds::{has_kind, is_one_of};
+use ifc_kinds::{Kind, element_kinds};
 use spec_step::Instance;
 use std::alloc::{AllocError, Global};
 use step_table::Table;
@@ -45,6 +45,21 @@ fn element_numbers(alloc: Global, table: &Table<'_>) -> Result<Vec<u64>, AllocEr
 pub fn elements(alloc: Global, table: &Table<'_>) -> Result<Vec<u64>, AllocError>
     ensures value { IfOk result (λ numbers. numbers.items ≡ elements table.now) }
     ensures simple { IfOk result (λ numbers. All (IsSimple table.now) numbers.items) }
+    ensures kinds { IfOk result (λ numbers. All (λ n. has_element_kind table.now n ≡ true) numbers.items) }
 {
     element_numbers(alloc, table)
+}
+
+/// The kind of a building element.
+pub fn element_kind(table: &Table<'_>, number: u64) -> Kind
+    requires { has_element_kind table.now number ≡ true }
+    ensures { has_kind table.now number result ≡ true }
+{
+    let kinds = element_kinds();
+    for kind in kinds {
+        if has_kind(table, number, *kind) {
+            return *kind;
+        }
+    }
+    unreachable!()
 }

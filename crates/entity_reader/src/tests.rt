@@ -27,12 +27,12 @@ fn edited(alloc: Global, old: &str, new: &str) -> Result<String, AllocError> {
     Ok(text)
 }
 
-/// The unit of length and the elements of a text.
+/// The unit of length of the first project, and the elements of a text.
 fn answer(alloc: Global, text: &str) -> Result<String, AllocError> {
     match parse_file(alloc, text.as_bytes()) {
         Ok(file) => {
             let table = Table::of(alloc, file)?;
-            let unit = length_unit(&table);
+            let unit = first_project(&table).map(|project| unit_of(&table, project));
             let numbers = elements(alloc, &table)?;
             format!(in alloc; "{unit:?} {:?}", numbers.as_slice())
         }
@@ -43,15 +43,19 @@ fn answer(alloc: Global, text: &str) -> Result<String, AllocError> {
 #[test]
 fn finds_unit_and_elements(rt: HostRuntime) -> Result<(), Fail> {
     for (old, new, want) in [
-        ("'p'", "'p'", "Ok(()) [14, 13, 12]"),
-        (",#9,", ",#8,", "Err(NoLengthUnit) [14, 13, 12]"),
-        (".MILLI.", "$", "Err(NoLengthUnit) [14, 13, 12]"),
+        ("'p'", "'p'", "Some(Ok(Some(1))) [14, 13, 12]"),
+        (",#9,", ",#8,", "Some(Ok(Some(8))) [14, 13, 12]"),
+        (
+            ".LENGTHUNIT.,.MILLI.",
+            "$,.MILLI.",
+            "Some(Ok(None)) [14, 13, 12]",
+        ),
         (
             "#6=IFCPROJECT",
             "#6=IFCPROJEKT",
-            "Err(NoLengthUnit) [14, 13, 12]",
+            "Some(Err(Unsupported { at: 8 })) [14, 13, 12]",
         ),
-        ("#13=IFCWALL", "#13=IFCWALLS", "Ok(()) [14, 12]"),
+        ("#13=IFCWALL", "#13=IFCWALLS", "Some(Ok(Some(1))) [14, 12]"),
     ] {
         let text = edited(rt.alloc(), old, new)?;
         assert_eq!(rt;

@@ -1,12 +1,12 @@
 ghost use Rattle.std.specs.Prelude.{◌≡◌, ◌≤◌, IsTrue, IfSome, IfOk};
 ghost use Rattle.spec_table.specs.Sections.{IsSimple};
-ghost use Rattle.spec_entity.specs.Units.{says, first_project, length_unit_in, first_length_unit, is_length_unit, is_millimetre, unit_of, length_unit};
+ghost use Rattle.spec_entity.specs.Units.{says, first_project, length_unit_in, first_length_unit, is_length_unit, unit_of};
 ghost use Rattle.step_table.specs.Answers.{as_reading_if_set};
 
 use crate::kinds::{has_kind, is_one_of, named_instance};
-use crate::numbers::members;
+use crate::lists::members;
 use ifc_kinds::Kind;
-use spec_refusal::{Refusal, UnitFault};
+use spec_refusal::Refusal;
 use spec_step::Param;
 use spec_table::AttrFault;
 use step_table::Table;
@@ -65,29 +65,4 @@ pub fn unit_of(table: &Table<'_>, project: u64) -> Result<Option<u64>, Refusal>
 {
     let units = named_instance(table, &[Kind::UnitAssignment], project, 9)?;
     Ok(first_length_unit(table, units, members(table, units, 1)?))
-}
-
-/// Whether the unit is the millimetre.
-fn is_millimetre(table: &Table<'_>, n: u64) -> bool
-    ensures { result ≡ is_millimetre table.now n }
-{
-    has_kind(table, n, Kind::SiUnit)
-        && says(table.attr_enum(n, 3), b"MILLI")
-        && says(table.attr_enum(n, 4), b"METRE")
-}
-
-/// That the unit of length of the file is the millimetre, the one that is built (IFC4, IfcSIUnit).
-///
-/// # Errors
-///
-/// `NoProject` exactly where no project stands in the file, and `NoLengthUnit` exactly where the
-/// units of the first one give no millimetre.
-pub fn length_unit(table: &Table<'_>) -> Result<(), UnitFault>
-    ensures { result ≡ length_unit table.now }
-{
-    let project = first_project(table).ok_or(UnitFault::NoProject)?;
-    match unit_of(table, project) {
-        Ok(Some(n)) if is_millimetre(table, n) => Ok(()),
-        _ => Err(UnitFault::NoLengthUnit),
-    }
 }

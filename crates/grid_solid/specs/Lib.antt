@@ -3,3 +3,4 @@ pub mod Shapes
 pub mod Views
 pub mod Bounds
 pub mod Bodies
+pub mod Counts

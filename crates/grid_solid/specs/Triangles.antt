@@ -5,7 +5,7 @@ use Rattle.spec_solid.specs.Triangles.{Triangle}
 use Rattle.spec_solid.specs.Planes.{triangle_planes}
 use Rattle.plane_core.specs.declared.numbers.Plane.{Plane as BookPlane}
 use Rattle.plane_core.specs.Planes.{IsReductionOf}
-use Rattle.grid_boxes.specs.Ranges.{AreSteps}
+use Rattle.ray_law.specs.Ranges.{AreSteps}
 use Rattle.grid_solid.specs.declared.triangles.GridTriangle.{GridTriangle}
 
 -- the triangle with the same corners

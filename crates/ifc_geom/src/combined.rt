@@ -1,6 +1,6 @@
 ghost use Rattle.std.specs.Prelude.{◌≡◌, ◌≤◌, ◌-◌, IfOk};
 ghost use Rattle.spec_table.specs.Sections.{IsSimple};
-ghost use Rattle.spec_entity.specs.Solids as operators;
+ghost use Rattle.spec_entity.specs.Operators as operators;
 ghost use Rattle.spec_geometry.specs.Breps.{each_counted};
 ghost use Rattle.spec_geometry.specs.Solids.{solid, solid_by, operand, boolean_result, csg_solid, member_solid, mapped, mapped_item};
 ghost use Rattle.ifc_numbers.specs.Measures.{file_of};

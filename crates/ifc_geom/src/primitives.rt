@@ -4,9 +4,8 @@ ghost use Rattle.spec_place.specs.Vectors.{one, IsWithin};
 ghost use Rattle.spec_table.specs.Sections.{IsSimple};
 ghost use Rattle.spec_geometry.specs.Solids.{sweep, extruded_area_solid, sizes, block, brep};
 ghost use Rattle.spec_shape.specs.Shapes.{prism_faces};
-ghost use Rattle.spec_expression.specs.Sizes.{IsExtent};
 ghost use Rattle.ix_profile.specs.Outlines.{IsOutline};
-ghost use Rattle.ifc_numbers.specs.Measures.{file_of};
+ghost use Rattle.ifc_numbers.specs.Measures.{file_of, IsExtent};
 ghost use Rattle.ifc_geom.specs.Views.{ReadsSolid};
 
 use entity_reader::named_instance;

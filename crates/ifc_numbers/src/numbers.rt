@@ -4,11 +4,10 @@ ghost use Rattle.spec_table.specs.Sections.{IsSimple};
 ghost use Rattle.spec_table.specs.Attributes.{attr_ref, attr_enum};
 ghost use Rattle.spec_place.specs.Lengths.{length_of};
 ghost use Rattle.spec_refusal.specs.declared.Refusal.TheVariants.{NumberTooLarge};
-ghost use Rattle.spec_expression.specs.Sizes.{IsExtent};
 ghost use Rattle.spec_entity.specs.Reads.{as_read, wanted_value, wanted_number};
 ghost use Rattle.spec_geometry.specs.Files.{found, length, positive, zero, number_if_set, boolean};
 ghost use Rattle.entity_reader.specs.Lent.{plain_read};
-ghost use Rattle.ifc_numbers.specs.Measures.{file_of};
+ghost use Rattle.ifc_numbers.specs.Measures.{file_of, IsExtent};
 
 use crate::measures::GeomIn;
 use entity_reader::refusal_of;

@@ -1,11 +1,11 @@
 -- An input is one thing: a file that is converted, by its one DATA section, or one that is refused for one reason.
-use Rattle.std.proofs.Common.{◌≡◌, ℕ, ◌<◌, ◌≤◌, List, length, Result, Ok, Err, refl, sym, ◌∙◌, ap, arith}
+use Rattle.std.proofs.Common.{◌≡◌, ℕ, ℤ, ◌<◌, ◌≤◌, List, length, Result, Ok, Err, refl, sym, ◌∙◌, ap, arith}
 use Rattle.spec_step.specs.declared.fault.StepFault.{StepFault}
 use Rattle.spec_step.specs.declared.fault.StepFault.TheVariants as step
 use Rattle.spec_table.specs.Sections.{DataSection}
-use Rattle.spec_entity.specs.Units.{length_unit}
+use Rattle.spec_geometry.specs.Units.{length_unit}
 use Rattle.spec_refusal.specs.declared.UnitFault.{UnitFault}
-use Rattle.spec_refusal.specs.declared.UnitFault.TheVariants as unit
+use Rattle.spec_refusal.specs.declared.UnitFault.TheVariants as fault
 use Rattle.spec_run.specs.declared.FileFault.{FileFault}
 use Rattle.spec_run.specs.declared.FileFault.TheVariants.{TooLarge, Syntax, Nested, Schema, DuplicateNumber, NoProject, NoLengthUnit}
 use Rattle.spec_run.specs.Inputs.{most_bytes, IsFileWith, IsInput, IsNoFile, LacksUnit, IsFaultOf}
@@ -29,8 +29,8 @@ text_fault (step.DuplicateNumber n first second) = DuplicateNumber n first secon
 text_fault step.NoMemory = TooLarge
 
 abbrev unit_fault : UnitFault → FileFault
-unit_fault unit.NoProject = NoProject
-unit_fault unit.NoLengthUnit = NoLengthUnit
+unit_fault fault.NoProject = NoProject
+unit_fault fault.NoLengthUnit = NoLengthUnit
 
 -- each fault is one of three kinds
 data Kind (given : List ℕ) : FileFault → Type 0 where
@@ -44,23 +44,23 @@ kind_of given (Syntax at) h = no_file (step.Syntax at) h
 kind_of given (Nested at) h = no_file (step.Nested at) h
 kind_of given Schema h = no_file step.Schema h
 kind_of given (DuplicateNumber n first second) h = no_file (step.DuplicateNumber n first second) h
-kind_of given NoProject h = no_unit unit.NoProject h
-kind_of given NoLengthUnit h = no_unit unit.NoLengthUnit h
+kind_of given NoProject h = no_unit fault.NoProject h
+kind_of given NoLengthUnit h = no_unit fault.NoLengthUnit h
 
 too_long : (n : ℕ) → n ≤ most_bytes → most_bytes < n → ⊥
 too_long n p q = omega arith
 
-abbrev read : Result (Unit {0}) UnitFault
-read = Ok tt
+abbrev read : ℤ → Result ℤ UnitFault
+read unit = Ok unit
 
-abbrev failure : UnitFault → Result (Unit {0}) UnitFault
+abbrev failure : UnitFault → Result ℤ UnitFault
 failure why = Err why
 
 same_failure : (why other : UnitFault) → failure why ≡ failure other → why ≡ other
 same_failure why other e = cc
 
-no_failure : (why : UnitFault) → read ≡ failure why → ⊥
-no_failure why e = cc
+no_failure : (unit : ℤ) (why : UnitFault) → read unit ≡ failure why → ⊥
+no_failure unit why e = cc
 
 one_unit : (given : List ℕ) (why other : UnitFault) → LacksUnit given why → LacksUnit given other → why ≡ other
 one_unit given why other h k = same_failure why other (sym h.unit ∙ ap length_unit (one_section given h.section k.section h.file k.file) ∙ k.unit)
@@ -83,12 +83,12 @@ one_kind given _ _ (no_unit why h) (no_unit other k) = ap unit_fault (one_unit g
 pub one_fault : (given : List ℕ) (why other : FileFault) → IsFaultOf given why → IsFaultOf given other → why ≡ other
 one_fault given why other h k = one_kind given why other (kind_of given why h) (kind_of given other k)
 
-no_kind : (given : List ℕ) (section : DataSection) (why : FileFault) → IsInput given section → Kind given why → ⊥
-no_kind given section _ h (large k) = too_long (length given) h.file.small k
-no_kind given section _ h (no_file why k) = no_cause given h.file.head section.instances why h.file.accepted k.cause
-no_kind given section _ h (no_unit why k) =
-    no_failure why (sym h.unit ∙ ap length_unit (one_section given section k.section h.file k.file) ∙ k.unit)
+no_kind : (given : List ℕ) (section : DataSection) (unit : ℤ) (why : FileFault) → IsInput given section unit → Kind given why → ⊥
+no_kind given section unit _ h (large k) = too_long (length given) h.file.small k
+no_kind given section unit _ h (no_file why k) = no_cause given h.file.head section.instances why h.file.accepted k.cause
+no_kind given section unit _ h (no_unit why k) =
+    no_failure unit why (sym h.measured ∙ ap length_unit (one_section given section k.section h.file k.file) ∙ k.unit)
 
 -- and for none where it is converted
-pub no_fault : (given : List ℕ) (section : DataSection) (why : FileFault) → IsInput given section → IsFaultOf given why → ⊥
-no_fault given section why h k = no_kind given section why h (kind_of given why k)
+pub no_fault : (given : List ℕ) (section : DataSection) (unit : ℤ) (why : FileFault) → IsInput given section unit → IsFaultOf given why → ⊥
+no_fault given section unit why h k = no_kind given section unit why h (kind_of given why k)

@@ -3,7 +3,8 @@ use Rattle.std.specs.Prelude.{◌≡◌, ℕ, List, [], ⊤, ◌⊎◌}
 use Rattle.ix_outside.specs.declared.fault.TakeFault.{TakeFault}
 use Rattle.ix_outside.specs.declared.fault.TakeFault.TheVariants as take
 use Rattle.spec_run.specs.declared.FileFault.TheVariants.{TooLarge}
-use Rattle.spec_run.specs.Findings.{Finding, Page, Refused, ReadFault, NoMemory, Usage, IsPageOf}
+use Rattle.spec_run.specs.Findings.{Finding, Page, Refused, ReadFault, NoMemory, Usage, IsPageFor}
+use Rattle.ix_words.specs.declared.job.Job.{Job}
 use Rattle.spec_run.specs.Inputs.{IsFaultOf}
 use Rattle.spec_run.specs.Reports.{report_of}
 use Rattle.ix_convert.specs.Statuses.{status_of}
@@ -28,12 +29,12 @@ abbrev pub TellsOrWants : Answer → Finding → Type 0
 TellsOrWants answer found = Tells answer found ⊎ Tells answer NoMemory
 
 -- what is found in the bytes of a source that was read to its end
-abbrev pub IsFoundAt : List ℕ → List ℕ → Finding → Type 0
-IsFoundAt given page (Page items) = IsPageOf given page items
-IsFoundAt given page (Refused why) = IsFaultOf given why × (page ≡ [])
-IsFoundAt given page ReadFault = ⊥
-IsFoundAt given page NoMemory = ⊤
-IsFoundAt given page Usage = ⊥
+abbrev pub IsFoundAt : Job → List ℕ → List ℕ → Finding → Type 0
+IsFoundAt job given page (Page items) = IsPageFor job given page items
+IsFoundAt job given page (Refused why) = IsFaultOf given why × (page ≡ [])
+IsFoundAt job given page ReadFault = ⊥
+IsFoundAt job given page NoMemory = ⊤
+IsFoundAt job given page Usage = ⊥
 
 -- the cause of a refusal lies in the bytes; want of memory is free
 abbrev pub HasReason : List ℕ → ConvertFault → Type 0

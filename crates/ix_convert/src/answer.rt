@@ -1,19 +1,20 @@
-ghost use Rattle.std.specs.Prelude.{◌≡◌, ◌≤◌, ℕ, List, [], length, map, true, false, IfOk, IfErr, string_bytes};
+ghost use Rattle.std.specs.Prelude.{◌≡◌, ◌≤◌, ℕ, List, [], length, map, None, IfOk, IfErr, string_bytes};
 ghost use Rattle.spec_page.specs.Items.{Item};
 ghost use Rattle.spec_outside.specs.Ends.{known};
-ghost use Rattle.spec_run.specs.Words.{names_convert};
+ghost use Rattle.ix_words.specs.Words.{job_of, HasGrid};
 ghost use Rattle.spec_run.specs.Inputs.{most_bytes};
-ghost use Rattle.spec_run.specs.Findings.{Finding, Page, Refused, NoMemory, IsPageOf, IsFoundIn, IsFound};
+ghost use Rattle.spec_run.specs.Findings.{Finding, Page, Refused, NoMemory, IsPageFor, IsFoundIn, IsFound};
 ghost use Rattle.ix_page.specs.Counts.{IsTallyOf};
 ghost use Rattle.ix_convert.specs.Answers.{Tells, TellsOrWants, IsFoundAt, HasReason, LeavesBlank, unread_finding};
 ghost use Rattle.ix_convert.specs.Statuses.{page_status};
 
-use crate::job::Job;
-use crate::open::{ConvertFault, open_file};
+use crate::open::{ConvertFault, OpenFile, open_file};
 use crate::report::{Report, fault_report};
 use crate::status::Status;
+use ifc_numbers::GeomIn;
 use ix_outside::{Source, TakeFault, read_whole};
 use ix_page::{Tally, page_report, write_page};
+use ix_words::Job;
 use spec_run::FileFault;
 use std::alloc::{AllocError, Global};
 
@@ -73,28 +74,36 @@ fn fault_answer(alloc: Global, fault: FileFault) -> Answer
     }
 }
 
-/// Builds the page of the bytes of a file.
-fn convert_file(alloc: Global, source: &[u8], page: &mut Vec<u8>) -> Result<Tally, ConvertFault>
+/// Builds the page of a job of the bytes of a file.
+fn convert_file(
+    alloc: Global,
+    job: Job,
+    source: &[u8],
+    page: &mut Vec<u8>,
+) -> Result<Tally, ConvertFault>
+    requires grid { HasGrid job }
     requires small { length source.now ≤ most_bytes }
     requires empty { page.old.items ≡ [] }
-    ensures page { IfOk result (λ tally. (items : List Item) × IsPageOf source.now page.new.items items × IsTallyOf tally items) }
+    ensures page { IfOk result (λ tally. (items : List Item) × IsPageFor job source.now page.new.items items × IsTallyOf tally items) }
     ensures refused { IfErr result (HasReason source.now) }
     ensures blank { IfErr result (LeavesBlank page.new.items) }
 {
-    let table = open_file(alloc, source)?;
-    match write_page(alloc, &table, page) {
+    let Job::Convert { grid, only } = job;
+    let OpenFile { table, unit } = open_file(alloc, source)?;
+    match write_page(alloc, &table, &GeomIn { unit, step: grid }, only, page) {
         Ok(tally) => Ok(tally),
         Err(AllocError) => Err(ConvertFault::NoMemory),
     }
 }
 
-/// Builds the page of the bytes of a source that was read to its end, and answers what is found.
-fn convert(alloc: Global, source: &[u8], page: &mut Vec<u8>) -> Answer
+/// Builds the page of a job of the bytes of a source that was read to its end, and answers what is found.
+fn convert(alloc: Global, job: Job, source: &[u8], page: &mut Vec<u8>) -> Answer
+    requires grid { HasGrid job }
     requires small { length source.now ≤ most_bytes }
     requires empty { page.old.items ≡ [] }
-    ensures { (found : Finding) × Tells result found × IsFoundAt source.now page.new.items found }
+    ensures { (found : Finding) × Tells result found × IsFoundAt job source.now page.new.items found }
 {
-    match convert_file(alloc, source, page) {
+    match convert_file(alloc, job, source, page) {
         Ok(tally) => page_answer(alloc, &tally),
         Err(ConvertFault::Refused(fault)) => fault_answer(alloc, fault),
         Err(ConvertFault::NoMemory) => no_memory(),
@@ -119,15 +128,16 @@ fn unread_answer(fault: TakeFault) -> Answer
     }
 }
 
-/// Reads the source, and builds the page of what it gives.
-fn convert_source<S: Source>(alloc: Global, src: &mut S, page: &mut Vec<u8>) -> Answer
-    requires { page.old.items ≡ [] }
-    ensures { (found : Finding) × Tells result found × IsFoundIn
+/// Reads the source, and builds the page of a job of what it gives.
+fn convert_source<S: Source>(alloc: Global, job: Job, src: &mut S, page: &mut Vec<u8>) -> Answer
+    requires grid { HasGrid job }
+    requires empty { page.old.items ≡ [] }
+    ensures { (found : Finding) × Tells result found × IsFoundIn job
         (known (S.left src.old) (S.faults src.old)) (known (S.left src.new) (S.faults src.new))
         page.new.items found }
 {
     match read_whole(alloc, src, MOST_BYTES) {
-        Ok(source) => convert(alloc, &source, page),
+        Ok(source) => convert(alloc, job, &source, page),
         Err(fault) => unread_answer(fault),
     }
 }
@@ -155,10 +165,10 @@ pub fn answer_words<S: Source>(
     ensures found { (found : Finding) × Tells result found × IsFound (map string_bytes words.now)
         (known (S.left src.old) (S.faults src.old)) (known (S.left src.new) (S.faults src.new))
         page.new.items found }
-    ensures untouched { names_convert (map string_bytes words.now) ≡ false → src.new ≡ src.old }
+    ensures untouched { job_of (map string_bytes words.now) ≡ None → src.new ≡ src.old }
 {
     match Job::of_words(words) {
         None => usage_answer(),
-        Some(Job::Convert) => convert_source(alloc, src, page),
+        Some(job) => convert_source(alloc, job, src, page),
     }
 }

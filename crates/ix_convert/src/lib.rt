@@ -3,7 +3,6 @@
 
 mod answer;
 mod deliver;
-mod job;
 mod open;
 mod report;
 mod run;
@@ -11,6 +10,6 @@ mod status;
 #[cfg(test)]
 mod tests;
 
-pub use job::Job;
+pub use ix_words::Job;
 pub use run::convert_run;
 pub use status::Status;

@@ -1,9 +1,10 @@
-ghost use Rattle.std.specs.Prelude.{ℕ, ◌≤◌, List, length, IfOk, IfErr};
+ghost use Rattle.std.specs.Prelude.{◌≡◌, ℕ, ◌≤◌, List, length, IfOk, IfErr};
 ghost use Rattle.step_text.specs.Answers.{IsCauseOrWant};
 ghost use Rattle.spec_run.specs.Inputs.{most_bytes, IsFileWith, IsInput, LacksUnit};
 ghost use Rattle.ix_convert.specs.Answers.{HasReason};
 
-use entity_reader::length_unit;
+use ifc_numbers::length_unit;
+use ix_place::LengthUnit;
 use spec_refusal::UnitFault;
 use spec_run::FileFault;
 use spec_step::StepFault;
@@ -70,15 +71,22 @@ fn read_table<'a>(alloc: Global, source: &'a [u8]) -> Result<Table<'a>, ConvertF
     }
 }
 
-/// The table of a file that has a unit of length.
-pub fn open_file<'a>(alloc: Global, source: &'a [u8]) -> Result<Table<'a>, ConvertFault>
+/// A file that passes the checks, and its unit of length.
+#[derive(Drop)]
+pub struct OpenFile<'a> {
+    pub table: Table<'a>,
+    pub unit: LengthUnit,
+}
+
+/// Opens a file that has a unit of length.
+pub fn open_file<'a>(alloc: Global, source: &'a [u8]) -> Result<OpenFile<'a>, ConvertFault>
     requires { length source.now ≤ most_bytes }
-    ensures input { IfOk result (λ table. IsInput source.now table) }
+    ensures input { IfOk result (λ file. IsInput source.now file.table file.unit) }
     ensures refused { IfErr result (HasReason source.now) }
 {
     let table = read_table(alloc, source)?;
     match length_unit(&table) {
-        Ok(()) => Ok(table),
+        Ok(unit) => Ok(OpenFile { table, unit }),
         Err(fault) => Err(unit_fault(fault)),
     }
 }

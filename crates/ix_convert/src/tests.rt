@@ -1,6 +1,6 @@
 ghost use Rattle.std.specs.declared.option.Option.TheVariants.{None};
 
-use crate::{Job, Status, convert_run};
+use crate::{Status, convert_run};
 use ix_outside::{Failed, MemSink, MemSource, Source, read_whole};
 use std::alloc::{AllocError, Global};
 use std::test::Fail;
@@ -135,6 +135,25 @@ fn names_each_element(rt: HostRuntime) -> Result<(), Fail> {
 }
 
 #[test]
+fn keeps_one_element_on_another_grid(rt: HostRuntime) -> Result<(), Fail> {
+    let window: &[u8] = b"#14=IFCSLAB('3',$,$,$,$,#7,$,$,$);#15=IFCCARTESIANPOINT((0.,0.,500.));
+#16=IFCAXIS2PLACEMENT3D(#15,$,$);#17=IFCLOCALPLACEMENT(#7,#16);
+#18=IFCOPENINGELEMENT('4',$,$,$,$,#17,#12,$,$);#19=IFCRELVOIDSELEMENT('5',$,$,$,#13,#18);";
+    let source = file(rt.alloc(), &[HEAD, PROJECT, WALL, window, END])?;
+    let words = ["convert", "--only=13", "--grid=500"];
+    let left = run(rt.alloc(), &words, &mut MemSource::new(source), 40_000, 400)?;
+    assert_eq!(rt; left.status, Status::Done);
+    for text in [
+        b"# ifcexact 1\n# grid 500\no 13\n#frame 1000000000 0 0".as_slice(),
+        // The upper half is cut away.
+        b"\n#vol6 3000000000000000000\n# end\n".as_slice(),
+    ] {
+        assert!(rt; has(&left.page, text));
+    }
+    Ok(())
+}
+
+#[test]
 fn refuses_files_in_order(rt: HostRuntime) -> Result<(), Fail> {
     let twice: &[u8] = b"#9=IFCWALL('2',$,'w',$,$,#7,$,$,$);";
     let cut = convert(rt.alloc(), &[HEAD, b"#13=IFCW"])?;
@@ -172,11 +191,9 @@ fn refuses_files_in_order(rt: HostRuntime) -> Result<(), Fail> {
 
 #[test]
 fn reads_nothing_for_faulty_words(rt: HostRuntime) -> Result<(), Fail> {
-    assert!(rt; Job::of_words(&words(rt.alloc(), &["convert"])?) == Some(Job::Convert));
-    assert!(rt; Job::of_words(&words(rt.alloc(), &["convert", "convert"])?).is_none());
     let parts: [&[u8]; 4] = [HEAD, PROJECT, WALL, END];
     let mut source = MemSource::new(file(rt.alloc(), &parts)?);
-    let left = run(rt.alloc(), &[], &mut source, 4000, 200)?;
+    let left = run(rt.alloc(), &["convert", "--grid=0"], &mut source, 4000, 200)?;
     assert_eq!(rt; left.status.code(), 6);
     assert!(rt;
         left.rep.held()

@@ -1,9 +1,16 @@
 -- Lists of items that grow by one.
-use Rattle.std.proofs.Common.{◌≡◌, ℕ, ◌+◌, ◌<◌, List, [], ◌∷◌, ◌++◌, length, get_or, take, Bool, refl, sym, ap, ◌∙◌, append_assoc, append-nil, arith, ℤ, min, Ok, length-append, zero-add, add_assoc, add-zero, subst}
-use Rattle.std.specs.Prelude.{sum_by, count_by, if◌then◌else◌}
-use Rattle.plane_core.specs.declared.numbers.Corner.{Corner}
-use Rattle.plain_engine.specs.Prints.{page_corners}
+use Rattle.std.proofs.Common.{◌≡◌, ℕ, ◌+◌, ◌<◌, Vec, Result, Err, IfOk, List, [], ◌∷◌, ◌++◌, length, get_or, take, Bool, refl, sym, ap, ◌∙◌, append_assoc, append-nil, arith, ℤ, min, Ok, length-append, zero-add, add_assoc, add-zero, subst}
+use Rattle.std.specs.Prelude.{sum_by, count_by, if◌then◌else◌, true, nat_eq, All}
+use Rattle.std.specs.List.{filter}
+use Rattle.std.proofs.lemmas.List.Elements.{All-weaker, All-filter}
 use Rattle.spec_table.specs.Sections.{DataSection}
+use Rattle.spec_entity.specs.Elements.{has_element_kind}
+use Rattle.ifc_kinds.specs.Keywords.{element_kinds}
+use Rattle.entity_reader.proofs.Simple.{simple_kinds}
+use Rattle.plane_core.specs.declared.numbers.Corner.{Corner}
+use Rattle.world_print.specs.Elements.{page_corners}
+use Rattle.spec_geometry.specs.Files.{File}
+use Rattle.spec_place.specs.declared.transform.Transform.{Transform}
 use Rattle.spec_solid.specs.Solids.{Body}
 use Rattle.spec_refusal.specs.Reads.{Read}
 use Rattle.spec_page.specs.Element.{Element}
@@ -13,7 +20,7 @@ use Rattle.spec_outcome.specs.Outcomes.{IsItemOf, AreItemsOf, IsElementOf, Stand
 use Rattle.std.proofs.lemmas.List.{take_more}
 use Rattle.std.proofs.lemmas.List.Sums.{sum_by-append, sum_by-cons}
 use Rattle.std.proofs.lemmas.Grind.{flat_map-append}
-use Rattle.ix_page.specs.Counts.{IsTallyOf, Counts, AddsElement, HasElements}
+use Rattle.ix_page.specs.Counts.{IsTallyOf, Counts, AddsElement, HasElements, IsElement}
 use Rattle.ix_page.specs.declared.tally.Tally.{Tally}
 
 -- as many corners of a page as there are exact and printed ones
@@ -33,22 +40,22 @@ lines_more before (i ∷ is) item =
     (add_assoc before (corner_count i) (sum_by corner_count is) ∙ ap (λ n. before + n) (sym (sum_by-cons corner_count i is)))
 
 -- the items of one element more
-pub items_more : (section : DataSection) (ns : List ℕ) (n : ℕ) (is : List Item) (i : Item)
-    → AreItemsOf 1000 section ns is → IsItemOf 1000 section n i → AreItemsOf 1000 section (ns ++ n ∷ []) (is ++ i ∷ [])
-items_more section [] n [] i h k = (k, tt)
-items_more section [] n (j ∷ is) i h k = absurd h
-items_more section (m ∷ ns) n [] i h k = absurd h
-items_more section (m ∷ ns) n (j ∷ is) i h k = (h.0, items_more section ns n is i h.1 k)
+pub items_more : (file : File) (ns : List ℕ) (n : ℕ) (is : List Item) (i : Item)
+    → AreItemsOf file ns is → IsItemOf file n i → AreItemsOf file (ns ++ n ∷ []) (is ++ i ∷ [])
+items_more file [] n [] i h k = (k, tt)
+items_more file [] n (j ∷ is) i h k = absurd h
+items_more file (m ∷ ns) n [] i h k = absurd h
+items_more file (m ∷ ns) n (j ∷ is) i h k = (h.0, items_more file ns n is i h.1 k)
 
 -- one element more
-pub elements_more : (section : DataSection) (ns : List ℕ) (k d : ℕ) (before page page' : List ℕ) (tally tally' : Tally) → k < length ns
-    → HasElements section (take k ns) before page tally → AddsElement section (get_or ns k d) page page' tally tally'
-    → HasElements section (take (k + 1) ns) before page' tally'
-elements_more section ns k d before page page' tally tally' lt old one = record {
+pub elements_more : (file : File) (ns : List ℕ) (k d : ℕ) (before page page' : List ℕ) (tally tally' : Tally) → k < length ns
+    → HasElements file (take k ns) before page tally → AddsElement file (get_or ns k d) page page' tally tally'
+    → HasElements file (take (k + 1) ns) before page' tally'
+elements_more file ns k d before page page' tally tally' lt old one = record {
   items = old.items ++ one.item ∷ [];
   outcomes =
-      subst (λ (l : List ℕ). AreItemsOf 1000 section l (old.items ++ one.item ∷ [])) (sym (take_more ns k d lt))
-      (items_more section (take k ns) (get_or ns k d) old.items one.item old.outcomes one.outcome);
+      subst (λ (l : List ℕ). AreItemsOf file l (old.items ++ one.item ∷ [])) (sym (take_more ns k d lt))
+      (items_more file (take k ns) (get_or ns k d) old.items one.item old.outcomes one.outcome);
   lines =
       one.lines ∙ ap (λ n. page ++ item_lines n one.item) old.counts.corners ∙ ap (λ l. l ++ item_lines (sum_by corner_count old.items) one.item) old.lines
       ∙ append_assoc before (items_lines 0 old.items) (item_lines (sum_by corner_count old.items) one.item)
@@ -77,13 +84,27 @@ counts_mesh t t' e elements converted skipped refused corners faces lines items 
 }
 
 -- what stands for an element that was rounded and meshed
-pub converted_item : (grid n : ℕ) (rounded : Read Body) (body : Body) (e : Element) → rounded ≡ Ok body → IsElementOf grid n body e
-    → StandsFor grid n (rounded_outcome rounded) (Printed e)
-converted_item grid n rounded body e same h =
-    subst (λ (r : Read Body). StandsFor grid n (rounded_outcome r) (Printed e)) (sym same) (e, refl, h)
+pub converted_item : (grid n : ℕ) (frame : Transform) (rounded : Read Body) (body : Body) (e : Element) → rounded ≡ Ok body → IsElementOf grid n frame body e
+    → StandsFor grid n (rounded_outcome frame rounded) (Printed e)
+converted_item grid n frame rounded body e same h =
+    subst (λ (r : Read Body). StandsFor grid n (rounded_outcome frame r) (Printed e)) (sym same) (e, refl, h)
 
 -- the line of the counts of a tally
 pub line_of_tally : (t : Tally) (items : List Item) → IsTallyOf t items
     → kinds_text t.elements t.converted t.skipped t.refused ++ sizes_text t.corners t.faces ≡ counts_line items
 line_of_tally t items h i =
     kinds_text (h.elements i) (h.converted i) (h.skipped i) (h.refused i) ++ sizes_text (h.corners i) (h.faces i)
+
+-- Which elements are wanted.
+
+-- an element is an instance with one entry
+pub are_elements : (section : DataSection) (ns : List ℕ) → All (λ n. has_element_kind section n ≡ true) ns → All (IsElement section) ns
+are_elements section ns kinds =
+    All-weaker (λ n. has_element_kind section n ≡ true) (IsElement section) (λ n h. record { simple = simple_kinds section n element_kinds h; kind = h }) ns kinds
+
+-- those that are wanted are too
+pub only_elements : {E A : Type 0} (section : DataSection) (ns : List ℕ) (only : ℕ) (r : Result (Vec ℕ A) E)
+    → IfOk r (λ kept. kept.items ≡ filter (λ n. nat_eq n only) ns) → All (λ n. has_element_kind section n ≡ true) ns → IfOk r (λ kept. All (IsElement section) kept.items)
+only_elements section ns only (Ok kept) e kinds =
+    subst (All (IsElement section)) (sym e) (All-filter (λ n. nat_eq n only) (IsElement section) ns (are_elements section ns kinds))
+only_elements section ns only (Err error) e kinds = tt

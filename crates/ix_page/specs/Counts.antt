@@ -1,7 +1,9 @@
 -- What is counted over the items of a page.
-use Rattle.std.specs.Prelude.{◌≡◌, ℕ, ◌+◌, List, [], ◌∷◌, ◌++◌, length, sum_by, count_by}
+use Rattle.std.specs.Prelude.{◌≡◌, true, ℕ, ◌+◌, List, [], ◌∷◌, ◌++◌, length, sum_by, count_by}
 use Rattle.std.specs.List.{flat_map}
-use Rattle.spec_table.specs.Sections.{DataSection}
+use Rattle.spec_table.specs.Sections.{DataSection, IsSimple}
+use Rattle.spec_entity.specs.Elements.{has_element_kind}
+use Rattle.spec_geometry.specs.Files.{File}
 use Rattle.spec_page.specs.Items.{Item, is_printed, is_skipped, is_refused, corner_count, face_count}
 use Rattle.spec_page.specs.Page.{item_lines, items_lines, if_refused}
 use Rattle.spec_outcome.specs.Outcomes.{IsItemOf, AreItemsOf}
@@ -17,21 +19,26 @@ pub record IsTallyOf (tally : Tally) (items : List Item) : Type 0 where
   pub faces : tally.faces ≡ sum_by face_count items
   pub lines : tally.refused_lines.items ≡ flat_map if_refused items
 
+-- the number of an instance with one entry, of the kind of an element
+pub record IsElement (section : DataSection) (n : ℕ) : Type 0 where
+  pub simple : IsSimple section n
+  pub kind : has_element_kind section n ≡ true
+
 -- an item more is counted
 abbrev pub Counts : Tally → Item → Tally → Type 0
 Counts old item new = (items : List Item) → IsTallyOf old items → IsTallyOf new (items ++ item ∷ [])
 
 -- the lines of one element more stand on the page, and it is counted
-pub record AddsElement (section : DataSection) (n : ℕ) (page page' : List ℕ) (tally tally' : Tally) : Type 0 where
+pub record AddsElement (file : File) (n : ℕ) (page page' : List ℕ) (tally tally' : Tally) : Type 0 where
   pub item : Item
-  pub outcome : IsItemOf 1000 section n item
+  pub outcome : IsItemOf file n item
   pub lines : page' ≡ page ++ item_lines tally.corners item
   pub counted : Counts tally item tally'
   pub one : tally'.elements ≡ tally.elements + 1
 
 -- the lines of these elements, in order, were put behind a text, and they are counted
-pub record HasElements (section : DataSection) (numbers : List ℕ) (before page : List ℕ) (tally : Tally) : Type 0 where
+pub record HasElements (file : File) (numbers : List ℕ) (before page : List ℕ) (tally : Tally) : Type 0 where
   pub items : List Item
-  pub outcomes : AreItemsOf 1000 section numbers items
+  pub outcomes : AreItemsOf file numbers items
   pub lines : page ≡ before ++ items_lines 0 items
   pub counts : IsTallyOf tally items

@@ -1,24 +1,21 @@
 ghost use Rattle.std.specs.Prelude.{◌≡◌, ℕ, ◌≤◌, ◌<◌, ◌+◌, ◌*◌, ◌^◌, [], length, OnOk};
-ghost use Rattle.plain_engine.specs.Prints.{element_of};
+ghost use Rattle.world_print.specs.Elements.{element_of};
 ghost use Rattle.ix_page.specs.Made.{item_of};
 ghost use Rattle.ix_page.specs.Counts.{IsTallyOf, Counts};
 
 use crate::element::Made;
 use crate::tally::Tally;
 use obj_text::write_refused;
-use plain_engine::PrintedMesh;
 use spec_refusal::Refusal;
 use std::alloc::{AllocError, Global};
+use world_print::ElementMesh;
 
 /// How many corners and faces an element has on the page.
-fn corner_and_face_count(mesh: &PrintedMesh) -> (usize, usize)
-    ensures corners { (n : ℕ) → result.0 ≡ length (element_of n mesh.now).corners }
-    ensures faces { (n : ℕ) → result.1 ≡ length (element_of n mesh.now).faces }
+fn corner_and_face_count(mesh: &ElementMesh) -> (usize, usize)
+    ensures corners { result.0 ≡ length (element_of mesh.now).corners }
+    ensures faces { result.1 ≡ length (element_of mesh.now).faces }
 {
-    (
-        mesh.mesh.corners.len().min(mesh.printed.len()),
-        mesh.mesh.faces.len(),
-    )
+    (mesh.mesh.corners.len(), mesh.mesh.faces.len())
 }
 
 impl Tally {
@@ -58,7 +55,7 @@ impl Tally {
         Ok(())
     }
 
-    fn count_mesh(&mut self, number: u64, mesh: &PrintedMesh)
+    fn count_mesh(&mut self, number: u64, mesh: &ElementMesh)
         requires { self.old.elements < 2 ^ 60 }
         ensures counts { Counts self.old (item_of number (Made.Mesh mesh.now)) self.new }
         ensures one { self.new.elements ≡ self.old.elements + 1 }

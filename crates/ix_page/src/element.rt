@@ -1,21 +1,28 @@
-ghost use Rattle.std.specs.Prelude.{ℕ, ◌≡◌, ◌≤◌, ◌^◌, ◌<◌, ◌++◌, IfOk, OnOk, map};
+ghost use Rattle.std.specs.Prelude.{◌≡◌, true, ◌≤◌, ◌<◌, ◌^◌, ◌++◌, IfOk, OnOk};
 ghost use Rattle.spec_table.specs.Sections.{IsSimple};
-ghost use Rattle.spec_expression.specs.Expressions.{triangles};
+ghost use Rattle.spec_entity.specs.Elements.{has_element_kind};
+ghost use Rattle.spec_shape.specs.Shapes.{element_count};
 ghost use Rattle.spec_page.specs.Page.{item_lines};
+ghost use Rattle.spec_grid.specs.Rounded.{round_element};
 ghost use Rattle.spec_outcome.specs.Outcomes.{IsItemOf, StandsFor, rounded_outcome};
-ghost use Rattle.spec_round.specs.Rounded.{round_body};
-ghost use Rattle.box_expressions.specs.Views.{expression_of};
-ghost use Rattle.std.specs.List.{sum_by};
+ghost use Rattle.solid_expr.specs.Views.{element_of};
+ghost use Rattle.ifc_numbers.specs.Measures.{file_of};
+ghost use Rattle.ifc_elem.specs.Voiding.{IsIndexOf};
+ghost use Rattle.world_print.specs.Ranges.{IsStep};
 ghost use Rattle.ix_page.specs.Made.{item_of};
 
-use box_expressions::BoxExpression;
-use box_reader::{ElementFault, element_body};
-use box_round::{RoundFault, round_boxes};
+use element_mesh::element_mesh;
+use entity_reader::element_kind;
+use grid_round::{RoundFault, round_solid};
+use ifc_elem::{Openings, element_body};
+use ifc_kinds::Kind;
+use ifc_numbers::{GeomIn, ItemFault};
 use obj_text::{write_element, write_refused, write_skipped};
-use plain_engine::{PrintedMesh, make_mesh};
+use solid_expr::ElementSolid;
 use spec_refusal::Refusal;
 use std::alloc::{AllocError, Global};
 use step_table::Table;
+use world_print::ElementMesh;
 
 /// What became of an element.
 #[derive(Drop)]
@@ -25,32 +32,46 @@ pub enum Made {
     /// It is refused.
     Refusal(Refusal),
     /// It was converted.
-    Mesh(PrintedMesh),
+    Mesh(ElementMesh),
 }
 
-/// What becomes of solids that were read: they are rounded to the grid of 1000 micrometres, and
-/// their mesh is made. The error is want of memory.
-fn made_of(alloc: Global, items: &[BoxExpression]) -> Result<Made, AllocError>
-    requires few { sum_by triangles (map expression_of items.now) ≤ 4096 }
-    ensures { (n : ℕ) → IfOk result (λ made. StandsFor 1000 n (rounded_outcome (round_body 1000 (map expression_of items.now))) (item_of n made)) }
+/// What becomes of an element of a kind that was read: it is rounded to the grid of a step in micrometres, and its mesh is
+/// made. The error is want of memory.
+fn made_of(alloc: Global, element: &ElementSolid, kind: Kind, step: u32) -> Result<Made, AllocError>
+    requires step { IsStep step }
+    requires few { element_count (element_of element.now) ≤ 4096 }
+    ensures { IfOk result (λ made. StandsFor step element.now.number
+        (rounded_outcome element.now.frame (round_element step (element_of element.now)))
+        (item_of element.now.number made)) }
 {
-    match round_boxes(alloc, items) {
-        Ok(solids) => Ok(Made::Mesh(make_mesh(alloc, &solids)?)),
+    match round_solid(alloc, element, step) {
+        Ok(solid) => {
+            let mesh = element_mesh(alloc, &solid, element.number, kind, element.frame, step)?;
+            Ok(Made::Mesh(mesh))
+        }
         Err(RoundFault::Refused(refusal)) => Ok(Made::Refusal(refusal)),
         Err(RoundFault::NoMemory) => Err(AllocError),
     }
 }
 
 /// What becomes of the element of a number. The error is want of memory.
-pub fn made_element(alloc: Global, table: &Table<'_>, number: u64) -> Result<Made, AllocError>
-    requires { IsSimple table.now number }
-    ensures { IfOk result (λ made. IsItemOf 1000 table.now number (item_of number made)) }
+pub fn made_element(
+    alloc: Global,
+    table: &Table<'_>,
+    g: &GeomIn,
+    openings: &Openings,
+    number: u64,
+) -> Result<Made, AllocError>
+    requires simple { IsSimple table.now number }
+    requires kind { has_element_kind table.now number ≡ true }
+    requires openings { IsIndexOf openings.now table.now }
+    ensures { IfOk result (λ made. IsItemOf (file_of table.now g.now) number (item_of number made)) }
 {
-    match element_body(alloc, table, number) {
-        Ok(Some(items)) => made_of(alloc, &items),
+    match element_body(alloc, table, g, openings, number) {
+        Ok(Some(element)) => made_of(alloc, &element, element_kind(table, number), g.step),
         Ok(None) => Ok(Made::Nothing),
-        Err(ElementFault::Refused(refusal)) => Ok(Made::Refusal(refusal)),
-        Err(ElementFault::NoMemory) => Err(AllocError),
+        Err(ItemFault::Refused(refusal)) => Ok(Made::Refusal(refusal)),
+        Err(ItemFault::NoMemory) => Err(AllocError),
     }
 }
 
@@ -67,6 +88,6 @@ pub fn put_item(
     match made {
         Made::Nothing => write_skipped(page, number),
         Made::Refusal(refusal) => write_refused(page, number, refusal),
-        Made::Mesh(mesh) => write_element(page, number, mesh, before),
+        Made::Mesh(mesh) => write_element(page, mesh, before),
     }
 }

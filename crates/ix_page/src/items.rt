@@ -1,14 +1,18 @@
-ghost use Rattle.std.specs.Prelude.{◌≡◌, ◌<◌, ◌≤◌, ◌^◌, ◌++◌, [], List, All, OnOk, IfOk, length};
+ghost use Rattle.std.specs.Prelude.{◌≡◌, true, ◌<◌, ◌≤◌, ◌^◌, ◌++◌, [], List, All, OnOk, IfOk, filter, length, nat_eq};
 ghost use Rattle.spec_table.specs.Sections.{IsSimple};
-ghost use Rattle.spec_entity.specs.Elements.{elements};
+ghost use Rattle.spec_entity.specs.Elements.{has_element_kind, elements};
 ghost use Rattle.spec_page.specs.Items.{Item};
 ghost use Rattle.spec_page.specs.Page.{page_text};
-ghost use Rattle.spec_outcome.specs.Outcomes.{AreItemsOf};
-ghost use Rattle.ix_page.specs.Counts.{IsTallyOf, AddsElement, HasElements};
+ghost use Rattle.spec_outcome.specs.Outcomes.{AreItemsOf, wanted_of};
+ghost use Rattle.ifc_numbers.specs.Measures.{file_of};
+ghost use Rattle.ifc_elem.specs.Voiding.{IsIndexOf};
+ghost use Rattle.ix_page.specs.Counts.{IsTallyOf, AddsElement, HasElements, IsElement};
 
 use crate::element::{made_element, put_item};
 use crate::tally::Tally;
 use entity_reader::elements;
+use ifc_elem::Openings;
+use ifc_numbers::GeomIn;
 use obj_text::{write_end, write_head};
 use std::alloc::{AllocError, Global};
 use step_table::Table;
@@ -17,15 +21,18 @@ use step_table::Table;
 fn put_element(
     alloc: Global,
     table: &Table<'_>,
+    g: &GeomIn,
+    openings: &Openings,
     number: u64,
     page: &mut Vec<u8>,
     tally: &mut Tally,
 ) -> Result<(), AllocError>
-    requires simple { IsSimple table.now number }
+    requires element { IsElement table.now number }
+    requires openings { IsIndexOf openings.now table.now }
     requires room { tally.old.elements < 2 ^ 60 }
-    ensures { OnOk result (AddsElement table.now number page.old.items page.new.items tally.old tally.new) }
+    ensures { OnOk result (AddsElement (file_of table.now g.now) number page.old.items page.new.items tally.old tally.new) }
 {
-    let made = made_element(alloc, table, number)?;
+    let made = made_element(alloc, table, g, openings, number)?;
     put_item(page, number, &made, tally.corners)?;
     tally.count(number, &made)
 }
@@ -34,33 +41,69 @@ fn put_element(
 fn put_elements(
     alloc: Global,
     table: &Table<'_>,
+    g: &GeomIn,
+    openings: &Openings,
     numbers: &[u64],
     page: &mut Vec<u8>,
 ) -> Result<Tally, AllocError>
-    requires { All (IsSimple table.now) numbers.now }
-    ensures { IfOk result (HasElements table.now numbers.now page.old.items page.new.items) }
+    requires elements { All (IsElement table.now) numbers.now }
+    requires openings { IsIndexOf openings.now table.now }
+    ensures { IfOk result (HasElements (file_of table.now g.now) numbers.now page.old.items page.new.items) }
 {
     let mut tally = Tally::new(alloc);
     for number in numbers {
-        put_element(alloc, table, *number, page, &mut tally)?;
+        put_element(alloc, table, g, openings, *number, page, &mut tally)?;
     }
     Ok(tally)
 }
 
-/// Appends the page of a file: one item for each element, in the order of the file, on the grid of
-/// 1000 micrometres. Answers what it counts.
+/// Those of the numbers that are this one.
+fn only_among(alloc: Global, numbers: &[u64], only: u64) -> Result<Vec<u64>, AllocError>
+    ensures { IfOk result (λ kept. kept.items ≡ filter (λ n. nat_eq n only) numbers.now) }
+{
+    let mut kept = Vec::new(alloc);
+    for number in numbers {
+        if *number == only {
+            kept.push(*number)?;
+        }
+    }
+    Ok(kept)
+}
+
+/// The numbers of the wanted elements of a file, in file order. The error is want of memory.
+fn wanted(alloc: Global, table: &Table<'_>, only: Option<u64>) -> Result<Vec<u64>, AllocError>
+    ensures value { IfOk result (λ numbers. numbers.items ≡ wanted_of only (elements table.now)) }
+    ensures elements { IfOk result (λ numbers. All (IsElement table.now) numbers.items) }
+{
+    let numbers = elements(alloc, table)?;
+    match only {
+        Some(only) => only_among(alloc, &numbers, only),
+        None => Ok(numbers),
+    }
+}
+
+/// Appends the page of a file: one item for each element, in the order of the file, on the grid of a step; or the item of the
+/// one element of a number, if it stands in the file. Each element is made and given back before the next is read. Answers
+/// what it counts.
 ///
 /// # Errors
 ///
 /// Want of memory; then part of the page may stand.
-pub fn write_page(alloc: Global, table: &Table<'_>, page: &mut Vec<u8>) -> Result<Tally, AllocError>
+pub fn write_page(
+    alloc: Global,
+    table: &Table<'_>,
+    g: &GeomIn,
+    only: Option<u64>,
+    page: &mut Vec<u8>,
+) -> Result<Tally, AllocError>
     requires { page.old.items ≡ [] }
-    ensures { IfOk result (λ tally. (items : List Item) × AreItemsOf 1000 table.now (elements table.now) items
-        × (page.new.items ≡ page_text 1000 items) × IsTallyOf tally items) }
+    ensures { IfOk result (λ tally. (items : List Item) × AreItemsOf (file_of table.now g.now) (wanted_of only (elements table.now)) items
+        × (page.new.items ≡ page_text g.now.grid items) × IsTallyOf tally items) }
 {
-    let numbers = elements(alloc, table)?;
-    write_head(page, 1000)?;
-    let tally = put_elements(alloc, table, &numbers, page)?;
+    let numbers = wanted(alloc, table, only)?;
+    let openings = Openings::of(alloc, table)?;
+    write_head(page, g.step)?;
+    let tally = put_elements(alloc, table, g, &openings, &numbers, page)?;
     write_end(page)?;
     Ok(tally)
 }

@@ -3,7 +3,7 @@ use Rattle.std.proofs.Common.{◌≡◌, ℕ, suc, ◌+◌, ◌<◌, List, [], �
 use Rattle.std.proofs.Math.Seq.{drop-cons}
 use Rattle.std.specs.List.{flat_map}
 use Rattle.plane_core.specs.declared.numbers.Corner.{Corner}
-use Rattle.plain_engine.specs.Prints.{page_corners}
+use Rattle.world_print.specs.Elements.{page_corners}
 
 pub piece_more : {X : Type 0} (f : X → List ℕ) (xs : List X) (i : ℕ) (d : X) (text grown all : List ℕ) → i < length xs
     → grown ≡ text ++ f (get_or xs i d) → text ++ flat_map f (drop i xs) ≡ all → grown ++ flat_map f (drop (i + 1) xs) ≡ all

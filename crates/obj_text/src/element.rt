@@ -2,35 +2,14 @@ ghost use Rattle.std.specs.Prelude.{◌≡◌, ◌<◌, ◌^◌, ◌++◌, OnOk,
 ghost use Rattle.spec_page.specs.Items.{Printed};
 ghost use Rattle.spec_page.specs.Lines.{frame_line, volume_line, number_line, element_body};
 ghost use Rattle.spec_page.specs.Page.{item_lines};
-ghost use Rattle.plain_engine.specs.Prints.{element_of};
+ghost use Rattle.world_print.specs.Elements.{element_of};
 
 use crate::faces::{put_corners, put_faces};
 use crate::lines::put_frame;
 use crate::numbers::{put_number_line, put_spaced};
-use plain_engine::PrintedMesh;
 use spec_place::Transform;
-use spec_space::Vector;
 use std::alloc::AllocError;
-
-/// The frame of the world.
-const WORLD: Transform = Transform {
-    x: Vector {
-        x: 1_000_000_000,
-        y: 0,
-        z: 0,
-    },
-    y: Vector {
-        x: 0,
-        y: 1_000_000_000,
-        z: 0,
-    },
-    z: Vector {
-        x: 0,
-        y: 0,
-        z: 1_000_000_000,
-    },
-    off: Vector { x: 0, y: 0, z: 0 },
-};
+use world_print::ElementMesh;
 
 /// Appends the sixfold volume, or that there is none.
 fn put_volume(page: &mut Vec<u8>, six: Option<i128>) -> Result<(), AllocError>
@@ -60,36 +39,25 @@ fn put_head(page: &mut Vec<u8>, number: u64, frame: &Transform) -> Result<(), Al
 }
 
 /// Appends the corners, the faces and the volume of a mesh.
-fn put_mesh(
-    page: &mut Vec<u8>,
-    number: u64,
-    mesh: &PrintedMesh,
-    before: u128,
-) -> Result<(), AllocError>
+fn put_mesh(page: &mut Vec<u8>, mesh: &ElementMesh, before: u128) -> Result<(), AllocError>
     requires { before < 2 ^ 127 }
-    ensures { OnOk result (page.new.items ≡ page.old.items ++ element_body before (element_of number mesh.now)) }
+    ensures { OnOk result (page.new.items ≡ page.old.items ++ element_body before (element_of mesh.now)) }
 {
     put_corners(page, &mesh.mesh.corners, &mesh.printed)?;
     put_faces(page, before, &mesh.mesh.faces)?;
     put_volume(page, mesh.six)
 }
 
-/// Appends the block of the element of a number, in the frame of the world: its corners, exact in
-/// grid steps and printed in metres, its faces with their planes, and its volume. So many corners
-/// stand before it on the page.
+/// Appends the block of an element: its number, its frame, its corners, exact in grid steps of the element's frame and printed
+/// in metres of the world, its faces with their planes, and its volume. So many corners stand before it on the page.
 ///
 /// # Errors
 ///
 /// Want of memory.
-pub fn write_element(
-    page: &mut Vec<u8>,
-    number: u64,
-    mesh: &PrintedMesh,
-    before: u128,
-) -> Result<(), AllocError>
+pub fn write_element(page: &mut Vec<u8>, mesh: &ElementMesh, before: u128) -> Result<(), AllocError>
     requires { before < 2 ^ 127 }
-    ensures { OnOk result (page.new.items ≡ page.old.items ++ item_lines before (Printed (element_of number mesh.now))) }
+    ensures { OnOk result (page.new.items ≡ page.old.items ++ item_lines before (Printed (element_of mesh.now))) }
 {
-    put_head(page, number, &WORLD)?;
-    put_mesh(page, number, mesh, before)
+    put_head(page, mesh.number, &mesh.frame.transform)?;
+    put_mesh(page, mesh, before)
 }

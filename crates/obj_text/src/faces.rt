@@ -3,7 +3,7 @@ ghost use Rattle.std.specs.List.{flat_map};
 ghost use Rattle.spec_page.specs.Lines.{plane_line, corner_lines, index_text, indices_line, face_lines};
 ghost use Rattle.plane_core.specs.Views.{point_of};
 ghost use Rattle.exact_mesh.specs.Meshes.{numbered_plane, vector_of, face_of};
-ghost use Rattle.plain_engine.specs.Prints.{page_corners};
+ghost use Rattle.world_print.specs.Elements.{page_corners};
 
 use crate::lines::{put_corner, put_plane};
 use crate::numbers::put_number;

@@ -12,7 +12,7 @@ use Rattle.spec_solid.specs.Planes.{plane_through, upright_plane}
 use Rattle.integer_laws.proofs.Ring.{var, neg, ◌⊕◌, ◌⊗◌, ◌⊖◌, ring}
 use Rattle.integer_laws.proofs.Signs.{square_positive}
 use Rattle.integer_laws.proofs.Products.{cancel_zero, zero_right, size_zero}
-use Rattle.grid_boxes.proofs.Orders.{sign_scaled, same_test}
+use Rattle.ray_law.proofs.Orders.{sign_scaled, same_test}
 use Rattle.ray_law.specs.Columns.{point_at, is_beside, is_in_column, is_under, IsOffWalls, IsMultiple, FormsOf, IsOffForms, is_with, has_sides, same, is_in_front}
 use Rattle.ray_law.specs.Shells.{is_covered, is_sided, is_told}
 use Rattle.ray_law.proofs.Columns.{one_sign, opposite_sign, under_is, not_opposite, corner_ab, corner_bc, corner_ca}

@@ -1,13 +1,12 @@
 -- The tree of an element.
-use Rattle.std.proofs.Common.{◌≡◌, ◌≢◌, ℕ, ℤ, pos, ◌*ℤ◌, Bool, false, not, ◌&&◌, List, ◌++◌, Some, slice_get, refl, sym, ap, subst, ◌∙◌, inl, inr, arith}
+use Rattle.std.proofs.Common.{◌≡◌, ◌≢◌, ℕ, ℤ, pos, ◌*ℤ◌, Bool, true, false, not, ◌&&◌, List, [], ◌++◌, map, Some, slice_get, refl, sym, ap, subst, ◌∙◌, inl, inr, arith}
 use Rattle.std.specs.List.{flat_map, Contains}
 use Rattle.std.proofs.lemmas.List.Elements.{Contains-append_left, Contains-append_right}
 use Rattle.std.proofs.Math.Logic.{∥∥₁_elim}
 use Rattle.spec_space.specs.declared.Point.{Point}
 use Rattle.spec_space.specs.declared.Plane.{Plane}
 use Rattle.spec_space.specs.Points.{value}
-use Rattle.spec_solid.specs.declared.BoolOp.TheVariants.{Difference}
-use Rattle.spec_solid.specs.Solids.{Solid, Body, truth, is_inside_some, is_meant}
+use Rattle.spec_solid.specs.Solids.{Body, is_meant}
 use Rattle.spec_solid.specs.Planes.{solid_planes, body_planes, IsPlaneOf}
 use Rattle.integer_laws.proofs.Products.{cancel_zero}
 use Rattle.plane_core.specs.declared.numbers.Plane.{Plane as BookPlane}
@@ -16,6 +15,8 @@ use Rattle.plane_core.specs.Views.{plane_of}
 use Rattle.plane_core.proofs.Laws.{reduced_is_reduced}
 use Rattle.grid_solid.specs.Triangles.{HasForm}
 use Rattle.grid_solid.specs.Bodies.{body_of}
+use Rattle.grid_solid.specs.Views.{solid_of}
+use Rattle.grid_solid.specs.declared.nodes.GridNode.{GridNode}
 use Rattle.grid_solid.specs.declared.solids.GridSolid.{GridSolid}
 use Rattle.grid_solid.proofs.Laws.{body_formed}
 use Rattle.tree_pool.specs.declared.node.TreeId.{TreeId}
@@ -24,9 +25,9 @@ use Rattle.tree_pool.specs.Pools.{Slots, StandsFor, AreTrees}
 use Rattle.tree_pool.specs.Kept.{IsKept}
 use Rattle.triangle_trees.specs.Forms.{IsTreeOf, IsOffAll}
 use Rattle.triangle_trees.proofs.Covers.{value_of_times}
-use Rattle.solid_tree.specs.Unions.{HasTree}
+use Rattle.solid_tree.specs.Unions.{HasTree, less}
 use Rattle.solid_tree.specs.Elements.{IsElementTree}
-use Rattle.solid_tree.proofs.Trees.{tree_wider}
+use Rattle.solid_tree.proofs.Trees.{tree_same, tree_wider}
 
 -- ---- the planes of an element
 plane_is : (body : Body) (k : Plane) (p : BookPlane) → Contains (body_planes body) k → IsReductionOf p k.a k.b k.c k.d → IsPlaneOf body (plane_of p)
@@ -45,23 +46,27 @@ element_is planes s t is = record {
   among = λ n i. let f = is.among n i in (f.0, f.2, plane_is (body_of s) f.1 f.0 f.3 f.4);
 }
 
--- ---- items and openings
-pub items_wider : (planes : List BookPlane) (body : Body) (f : Tree) → IsTreeOf planes (flat_map solid_planes body.items) (is_inside_some body.items) f → IsTreeOf planes (body_planes body) (is_inside_some body.items) f
-items_wider planes body f is = tree_wider planes (flat_map solid_planes body.items) (body_planes body) (λ k c. Contains-append_left (flat_map solid_planes body.items) (flat_map solid_planes body.openings) k c) (is_inside_some body.items) f is
-
-pub openings_wider : (planes : List BookPlane) (body : Body) (f : Tree) → IsTreeOf planes (flat_map solid_planes body.openings) (is_inside_some body.openings) f → IsTreeOf planes (body_planes body) (is_inside_some body.openings) f
-openings_wider planes body f is = tree_wider planes (flat_map solid_planes body.openings) (body_planes body) (λ k c. Contains-append_right (flat_map solid_planes body.items) (flat_map solid_planes body.openings) k c) (is_inside_some body.openings) f is
-
 -- ---- in a pool that is swept
 pub has_swept : (before after : Slots) (planes : List BookPlane) (roots : List TreeId) → ((id : TreeId) (t : Tree) → IsKept before roots id → StandsFor before id t → StandsFor after id t) → (ks : List Plane) (told : Point → Bool) (id : TreeId) → Contains roots id
     → HasTree before planes ks told id → HasTree after planes ks told id
 has_swept before after planes roots kept ks told id root h = (h.0, kept id h.0 (0, inr root) h.1, h.2)
 
-pub items_has : (pool : Slots) (planes : List BookPlane) (body : Body) (id : TreeId) → HasTree pool planes (flat_map solid_planes body.items) (is_inside_some body.items) id → HasTree pool planes (body_planes body) (is_inside_some body.items) id
-items_has pool planes body id h = (h.0, h.1, items_wider planes body h.0 h.2)
+-- ---- more planes, and openings
+pub left_has : (pool : Slots) (planes : List BookPlane) (ks ls : List Plane) (told : Point → Bool) (id : TreeId) → HasTree pool planes ks told id → HasTree pool planes (ks ++ ls) told id
+left_has pool planes ks ls told id h = (h.0, h.1, tree_wider planes ks (ks ++ ls) (λ k c. Contains-append_left ks ls k c) told h.0 h.2)
 
-pub openings_has : (pool : Slots) (planes : List BookPlane) (body : Body) (id : TreeId) → HasTree pool planes (flat_map solid_planes body.openings) (is_inside_some body.openings) id → HasTree pool planes (body_planes body) (is_inside_some body.openings) id
-openings_has pool planes body id h = (h.0, h.1, openings_wider planes body h.0 h.2)
+pub right_has : (pool : Slots) (planes : List BookPlane) (ks ls : List Plane) (told : Point → Bool) (id : TreeId) → HasTree pool planes ls told id → HasTree pool planes (ks ++ ls) told id
+right_has pool planes ks ls told id h = (h.0, h.1, tree_wider planes ls (ks ++ ls) (λ k c. Contains-append_right ks ls k c) told h.0 h.2)
+
+pub less_nothing : (pool : Slots) (planes : List BookPlane) (ks : List Plane) (told : Point → Bool) (id : TreeId) (openings : List GridNode) → openings ≡ [] → HasTree pool planes ks told id
+    → HasTree pool planes (ks ++ flat_map solid_planes (map solid_of openings)) (less told (map solid_of openings)) id
+less_nothing pool planes ks told id openings e h =
+    subst (λ ns. HasTree pool planes (ks ++ flat_map solid_planes (map solid_of ns)) (less told (map solid_of ns)) id) (sym e)
+    (left_has pool planes ks [] (less told []) id (h.0, h.1, tree_same planes ks told (less told []) (λ q. all (told q)) h.0 h.2))
+  where
+    all : (s : Bool) → s ≡ (s && true)
+    all true = refl
+    all false = refl
 
 -- the tree of a number that has it
 pub tree_has : (pool : Slots) (planes : List BookPlane) (ks : List Plane) (told : Point → Bool) (id : TreeId) → AreTrees pool → HasTree pool planes ks told id → (t : Tree) → StandsFor pool id t → IsTreeOf planes ks told t

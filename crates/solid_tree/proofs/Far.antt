@@ -19,7 +19,7 @@ use Rattle.integer_laws.proofs.Cancel.{sign_cases, mul_zero_right, positive_righ
 use Rattle.ray_law.specs.Columns.{rises_right, passes_right, is_below}
 use Rattle.ray_law.specs.Shells.{lies_below_oddly}
 use Rattle.ray_law.proofs.Shells.{ray_law}
-use Rattle.grid_boxes.specs.Ranges.{AreSteps}
+use Rattle.ray_law.specs.Ranges.{AreSteps}
 use Rattle.grid_solid.specs.Triangles.{triangle_of, IsNear}
 use Rattle.grid_solid.specs.Shapes.{Shape, Triangles, Half, Joined, Nothing, shape_solid}
 use Rattle.grid_solid.specs.Bounds.{is_bounded, IsBounded}

@@ -4,6 +4,6 @@ mod UnionLaws
 mod Rounds
 mod Shrinks
 mod ElementLaws
-mod Far
+pub mod Far
 mod Nudges
 mod Tight

@@ -11,10 +11,10 @@ use Rattle.grid_solid.specs.Views.{solid_of}
 use Rattle.tree_pool.specs.declared.node.TreeId.{TreeId}
 use Rattle.tree_pool.specs.Pools.{Slots, IsLive, KeepsTrees}
 use Rattle.triangle_trees.specs.Forms.{IsGrown}
-use Rattle.triangle_trees.specs.Primitives.{plane_count}
+use Rattle.grid_solid.specs.Counts.{plane_count}
 use Rattle.triangle_trees.proofs.Grown.{grown_further}
 use Rattle.solid_tree.specs.Unions.{HasTree, HaveTrees}
-use Rattle.solid_tree.specs.Elements.{all_planes_count}
+use Rattle.grid_solid.specs.Counts.{all_planes_count}
 use Rattle.solid_tree.proofs.Trees.{tree_wider}
 use Rattle.solid_tree.proofs.Lists.{have_kept, have_push}
 use Rattle.solid_tree.proofs.UnionLaws.{insides}

@@ -15,14 +15,14 @@ use Rattle.grid_solid.specs.declared.nodes.GridNode.TheVariants.{Combined, Union
 use Rattle.grid_solid.specs.Shapes.{Shape, union_of, shape_solid}
 use Rattle.grid_solid.specs.Views.{shape_of, solid_of}
 use Rattle.grid_solid.proofs.Folds.{shape-Combined, shape-Union}
-use Rattle.triangle_trees.specs.Primitives.{plane_count}
+use Rattle.grid_solid.specs.Counts.{plane_count}
 use Rattle.plane_core.specs.declared.numbers.Plane.{Plane as BookPlane}
 use Rattle.tree_pool.specs.declared.node.TreeId.{TreeId}
 use Rattle.tree_pool.specs.Pools.{Slots}
 use Rattle.triangle_trees.specs.Forms.{IsTreeOf}
 use Rattle.solid_tree.proofs.Trees.{tree_same, tree_wider}
 use Rattle.solid_tree.specs.Unions.{HasTree, HaveTrees, AreUnited, some_told}
-use Rattle.solid_tree.specs.Elements.{all_planes_count}
+use Rattle.grid_solid.specs.Counts.{all_planes_count}
 
 -- ---- the union of some shapes
 abbrev pub union_solid : List GridNode → Solid

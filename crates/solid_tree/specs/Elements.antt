@@ -1,23 +1,15 @@
 -- When a tree is that of an element, and when it is tight.
-use Rattle.std.specs.Prelude.{◌≡◌, ◌≢◌, ◌⊎◌, ◌+◌, ◌^◌, ◌<◌, ℕ, pos, negsuc, ◌*ℤ◌, ◌<ℤ◌, false, List, [], ◌∷◌, slice_get, Some}
+use Rattle.std.specs.Prelude.{◌≡◌, ◌≢◌, ℕ, pos, negsuc, ◌*ℤ◌, ◌<ℤ◌, false, List, slice_get, Some}
 use Rattle.spec_space.specs.declared.Plane.{Plane}
 use Rattle.spec_space.specs.declared.Point.{Point}
 use Rattle.spec_space.specs.Points.{IsPoint, value}
-use Rattle.spec_solid.specs.Solids.{Solid, Body, is_meant}
+use Rattle.spec_solid.specs.Solids.{Body, is_meant}
 use Rattle.spec_solid.specs.Planes.{IsPlaneOf}
 use Rattle.plane_core.specs.declared.numbers.Plane.{Plane as BookPlane}
 use Rattle.plane_core.specs.Views.{plane_of}
 use Rattle.poly_frag.specs.Cubes.{IsInsideCube}
 use Rattle.tree_pool.specs.Trees.{Tree, value_of, IsOff}
 use Rattle.tree_pool.specs.Trees.{IsPlaneOf as HasPlane}
-use Rattle.triangle_trees.specs.Primitives.{plane_count}
-
-abbrev pub all_planes_count : List Solid → ℕ
-all_planes_count [] = 0
-all_planes_count (s ∷ ss) = plane_count s + all_planes_count ss
-
-abbrev pub body_plane_count : Body → ℕ
-body_plane_count body = all_planes_count body.items + all_planes_count body.openings
 
 -- at each point strictly inside the enclosing cube and off the planes of the element the tree has the element's meaning,
 -- and its planes are planes of the element

@@ -1,7 +1,8 @@
 -- Trees in a pool that tell meanings, and what some of them tell together.
-use Rattle.std.specs.Prelude.{◌≡◌, Bool, false, ◌||◌, List, [], ◌∷◌}
+use Rattle.std.specs.Prelude.{◌≡◌, Bool, false, not, ◌&&◌, ◌||◌, List, [], ◌∷◌}
 use Rattle.spec_space.specs.declared.Point.{Point}
 use Rattle.spec_space.specs.declared.Plane.{Plane}
+use Rattle.spec_solid.specs.Solids.{Solid, is_inside_some}
 use Rattle.plane_core.specs.declared.numbers.Plane.{Plane as BookPlane}
 use Rattle.tree_pool.specs.declared.node.TreeId.{TreeId}
 use Rattle.tree_pool.specs.Trees.{Tree}
@@ -27,3 +28,7 @@ some_told (told ∷ rest) q = told q || some_told rest q
 -- the numbers stand for trees of which some is true where the meaning is
 abbrev pub AreUnited : Slots → List BookPlane → List Plane → (Point → Bool) → List TreeId → Type 0
 AreUnited pool planes ks told ids = (parts : List (Point → Bool)) × HaveTrees pool planes ks parts ids × ((q : Point) → some_told parts q ≡ told q)
+
+-- the meaning is true at the point, and no opening has it
+abbrev pub less : (Point → Bool) → List Solid → Point → Bool
+less told openings q = told q && not (is_inside_some openings q)

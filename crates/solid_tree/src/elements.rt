@@ -1,13 +1,20 @@
-ghost use Rattle.std.specs.Prelude.{◌^◌, ◌<◌, ◌+◌, length, IfOk};
+ghost use Rattle.std.specs.Prelude.{◌^◌, ◌<◌, ◌+◌, ◌++◌, Bool, List, length, map, IfOk};
+ghost use Rattle.std.specs.List.{flat_map};
+ghost use Rattle.spec_space.specs.declared.Plane.{Plane};
+ghost use Rattle.spec_space.specs.declared.Point.{Point};
+ghost use Rattle.spec_solid.specs.Planes.{solid_planes};
 ghost use Rattle.grid_solid.specs.Bodies.{body_of};
+ghost use Rattle.grid_solid.specs.Views.{solid_of};
 ghost use Rattle.tree_pool.specs.Trees.{Tree};
 ghost use Rattle.tree_pool.specs.Pools.{IsLive, StandsFor, AreTrees};
 ghost use Rattle.triangle_trees.specs.Forms.{IsGrown};
-ghost use Rattle.solid_tree.specs.Elements.{body_plane_count, IsElementTree, IsTight};
+ghost use Rattle.grid_solid.specs.Counts.{all_planes_count, body_plane_count};
+ghost use Rattle.solid_tree.specs.Elements.{IsElementTree, IsTight};
+ghost use Rattle.solid_tree.specs.Unions.{HasTree, less};
 
 use crate::nodes::union_tree;
 use crate::unions::combined;
-use grid_solid::GridSolid;
+use grid_solid::{GridNode, GridSolid};
 use plane_core::PlaneBook;
 use spec_solid::BoolOp;
 use std::alloc::{AllocError, Global};
@@ -32,9 +39,33 @@ pub fn solid_tree(
     ensures trees { AreTrees pool.new }
 {
     let items = union_tree(alloc, book, pool, solid.items.as_slice())?;
-    pool.sweep(alloc, &[items])?;
-    let openings = union_tree(alloc, book, pool, solid.openings.as_slice())?;
-    let tree = combined(alloc, book, pool, BoolOp::Difference, items, openings)?;
+    let tree = less_openings(alloc, book, pool, items, solid.openings.as_slice())?;
     pool.sweep(alloc, &[tree])?;
     Ok(tree)
+}
+
+/// The tree of what a tree tells, less what lies in some of the openings: with no openings it is that tree. The planes of
+/// the openings are added to the book, at most four for each triangle, and one for each half-space. Where there are
+/// openings, the pool is swept of what the tree does not reach. The error is want of memory.
+fn less_openings(
+    alloc: Global,
+    book: &mut PlaneBook,
+    pool: &mut Pool,
+    items: TreeId,
+    openings: &[GridNode],
+) -> Result<TreeId, AllocError>
+    requires live { IsLive pool.old items }
+    requires room { length book.old + all_planes_count (map solid_of openings.now) < 2 ^ 31 }
+    ensures less { IfOk result (λ id. (ks : List Plane) (told : Point → Bool) → HasTree pool.old book.old ks told items → HasTree pool.new book.new (ks ++ flat_map solid_planes (map solid_of openings.now)) (less told (map solid_of openings.now)) id) }
+    ensures live { IfOk result (IsLive pool.new) }
+    ensures grown { IsGrown (all_planes_count (map solid_of openings.now)) book.old book.new }
+    ensures trees { AreTrees pool.new }
+{
+    if openings.is_empty() {
+        let _live = pool.count();
+        return Ok(items);
+    }
+    pool.sweep(alloc, &[items])?;
+    let removed = union_tree(alloc, book, pool, openings)?;
+    combined(alloc, book, pool, BoolOp::Difference, items, removed)
 }

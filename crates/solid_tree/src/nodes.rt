@@ -5,9 +5,9 @@ ghost use Rattle.spec_solid.specs.Solids.{is_inside, is_inside_some};
 ghost use Rattle.grid_solid.specs.Views.{solid_of};
 ghost use Rattle.tree_pool.specs.Pools.{IsLive, KeepsTrees, AreTrees};
 ghost use Rattle.triangle_trees.specs.Forms.{IsGrown};
-ghost use Rattle.triangle_trees.specs.Primitives.{plane_count};
+ghost use Rattle.grid_solid.specs.Counts.{plane_count};
 ghost use Rattle.solid_tree.specs.Unions.{HasTree};
-ghost use Rattle.solid_tree.specs.Elements.{all_planes_count};
+ghost use Rattle.grid_solid.specs.Counts.{all_planes_count};
 
 use crate::unions::{combined, united};
 use grid_solid::GridNode;

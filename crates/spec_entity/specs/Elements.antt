@@ -1,18 +1,14 @@
--- Elements (IFC4): their representation, their placement, their items.
+-- Elements (IFC4): which they are, their representation, and what voids them.
 use Rattle.std.specs.Prelude.{ℕ, Bool, false, ◌&&◌, nat_eq, List, [], ◌∷◌, Option, Some, None, Ok, Err, codes, if◌then◌else◌}
-use Rattle.std.specs.List.{find, filter}
+use Rattle.std.specs.List.{filter}
 use Rattle.std.specs.Str.{bytes_eq}
 use Rattle.spec_step.specs.declared.tree.Param.{Param}
 use Rattle.spec_table.specs.Sections.{DataSection}
 use Rattle.spec_table.specs.Attributes.{Reading, attr_ref, attr_text}
 use Rattle.ifc_kinds.specs.Keywords.{element_kinds}
 use Rattle.ifc_kinds.specs.declared.kind.Kind.TheVariants as kind
-use Rattle.spec_refusal.specs.declared.Refusal.TheVariants.{Unsupported}
-use Rattle.spec_refusal.specs.Reads.{Read, next, only_if}
-use Rattle.spec_entity.specs.Reads.{as_read, if_unset, instance_of_kinds, is_one_of, has_kind, numbers_of, named_instance, member_instance, members}
-use Rattle.spec_entity.specs.Points.{axes, is_zero}
-use Rattle.spec_entity.specs.Solids.{items}
-use Rattle.spec_expression.specs.Expressions.{Expression}
+use Rattle.spec_refusal.specs.Reads.{Read, next}
+use Rattle.spec_entity.specs.Reads.{as_read, instance_of_kinds, is_one_of, has_kind, numbers_of, member_instance, members}
 
 -- Which instances are elements.
 
@@ -64,18 +60,6 @@ body_representation_of section (Some n) =
 abbrev pub representation : DataSection → ℕ → Read (Option Representation)
 representation section product = next (as_read (attr_ref section product 7)) (body_representation_of section)
 
--- IfcLocalPlacement at the origin of the world
-abbrev pub placement_at : DataSection → Option ℕ → Read (Unit {0})
-placement_at section None = Ok tt
-placement_at section (Some n) =
-    next (instance_of_kinds section (kind.LocalPlacement ∷ []) n) (λ p.
-    if_unset section p 1 (
-    next (named_instance section (kind.Axis2Placement3d ∷ []) p 2) (λ a.
-    next (axes section a) (λ at. only_if (is_zero at) (Unsupported a) (Ok tt)))))
-
-abbrev pub placement : DataSection → ℕ → Read (Unit {0})
-placement section product = next (as_read (attr_ref section product 6)) (placement_at section)
-
 -- Openings.
 
 -- the attribute is a reference to the instance of a number
@@ -87,23 +71,3 @@ refers n (Err fault) = false
 -- the instance is a relation that voids the element
 abbrev pub voids : DataSection → ℕ → ℕ → Bool
 voids section element n = has_kind section n kind.RelVoidsElement && refers element (attr_ref section n 5)
-
--- the first relation that voids the element
-abbrev pub first_voiding : DataSection → ℕ → Option ℕ
-first_voiding section element = find (voids section element) (numbers_of section)
-
--- an opening is not read
-abbrev pub no_opening : Option ℕ → Read (Unit {0})
-no_opening None = Ok tt
-no_opening (Some relation) = Err (Unsupported relation)
-
-abbrev pub items_of_body : DataSection → ℕ → Option Representation → Read (Option (List Expression))
-items_of_body section element None = Ok None
-items_of_body section element (Some c) =
-    next (placement section element) (λ _.
-    next (items section c.0 c.1 0) (λ read.
-    next (no_opening (first_voiding section element)) (λ _. Ok (Some read.0))))
-
--- the items of an element, none where it has no body, or the first refusal
-abbrev pub element_body : DataSection → ℕ → Read (Option (List Expression))
-element_body section element = next (representation section element) (items_of_body section element)

@@ -1,5 +1,5 @@
 pub mod Reads
 pub mod Units
 pub mod Points
-pub mod Solids
+pub mod Operators
 pub mod Elements

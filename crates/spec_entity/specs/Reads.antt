@@ -1,5 +1,5 @@
 -- Reading in order: what is read, or the first refusal.
-use Rattle.std.specs.Prelude.{ℕ, ℤ, Bool, false, List, [], ◌∷◌, map, Option, Some, None, is_none, Ok, Err}
+use Rattle.std.specs.Prelude.{ℕ, ℤ, Bool, false, List, [], ◌∷◌, map, Option, Some, None, Ok, Err}
 use Rattle.std.specs.List.{list_any}
 use Rattle.spec_step.specs.Spans.{bytes_at}
 use Rattle.spec_step.specs.declared.tree.Param.{Param}
@@ -7,7 +7,7 @@ use Rattle.spec_step.specs.declared.tree.Body.{Body}
 use Rattle.spec_step.specs.declared.tree.Body.TheVariants.{Simple, Complex}
 use Rattle.spec_step.specs.declared.tree.Instance.{Instance}
 use Rattle.spec_table.specs.Sections.{DataSection, instance_of}
-use Rattle.spec_table.specs.Attributes.{Reading, attribute, attr_ref, attr_real, attr_list, read_ref, read_real}
+use Rattle.spec_table.specs.Attributes.{Reading, attr_ref, attr_real, attr_list, read_ref, read_real}
 use Rattle.spec_table.specs.declared.fault.AttrFault.{AttrFault}
 use Rattle.spec_table.specs.declared.fault.AttrFault.TheVariants as fault
 use Rattle.ifc_kinds.specs.Keywords.{is_keyword}
@@ -30,10 +30,6 @@ abbrev pub wanted_value : {T : Type 0} → ℕ → ℕ → Reading (Option T) �
 wanted_value at position (Ok (Some x)) = Ok x
 wanted_value at position (Ok None) = Err (BadAttribute at position)
 wanted_value at position (Err f) = Err (refusal_of f)
-
--- an attribute that says more than is read where it is set
-abbrev pub if_unset : {T : Type 0} → DataSection → ℕ → ℕ → Read T → Read T
-if_unset section at position go_on = only_if (is_none (attribute section at position)) (Unsupported at) go_on
 
 -- The instances of a file by their numbers.
 

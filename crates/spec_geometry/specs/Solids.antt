@@ -12,7 +12,7 @@ use Rattle.spec_refusal.specs.declared.Refusal.TheVariants.{Unsupported, TooDeep
 use Rattle.spec_refusal.specs.Reads.{Read, next}
 use Rattle.spec_shape.specs.Shapes.{Shape, Faces, Half, Combined, united, prism_faces, block_faces, lifted, upwards}
 use Rattle.spec_entity.specs.Reads.{has_kind, is_one_of, named_instance, member_instance, members}
-use Rattle.spec_entity.specs.Solids.{operator}
+use Rattle.spec_entity.specs.Operators.{operator}
 use Rattle.spec_geometry.specs.Files.{File, positive, boolean, wanted_instance}
 use Rattle.spec_geometry.specs.Points.{direction}
 use Rattle.spec_geometry.specs.Axes as axes

@@ -7,7 +7,7 @@ use Rattle.spec_solid.specs.Solids.{Body}
 use Rattle.spec_solid.specs.Planes.{IsPlaneOf, IsAlone, boundary_at}
 use Rattle.spec_headline.specs.Reduced.{IsReducedPoint, IsPrintedPlane}
 use Rattle.spec_page.specs.Element.{Element}
-use Rattle.spec_page.specs.Faces.{IsFull, faces_at}
+use Rattle.spec_page.specs.Faces.{IsFull, faces_at, edge_count}
 use Rattle.spec_page.specs.World.{rounded_image, printed_volume}
 use Rattle.spec_num.specs.Words.{within_128_bits}
 
@@ -25,6 +25,8 @@ pub record IsPrintOf (body : Body) (grid : ℕ) (e : Element) : Type 0 where
   -- a point alone on a plane of the element lies on exactly one face, turned outwards, where the meaning differs across
   -- the plane there, and on none otherwise
   pub boundary : (h : Plane) (p : Point) → IsPoint p → IsAlone body h p → map (λ f. f.plane) (faces_at e p) ≡ boundary_at body h p
+  -- the surface is closed: each directed edge stands in the faces as often as its reverse
+  pub edges : (i j : ℕ) → edge_count e.faces i j ≡ edge_count e.faces j i
   -- no corner stands twice, and each is a corner of some face
   pub different : AllPairs (λ c d. c.exact ≢ d.exact) e.corners
   pub used : (i : ℕ) → i < length e.corners → Any (λ f. Contains f.corners i) e.faces

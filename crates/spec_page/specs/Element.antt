@@ -1,5 +1,5 @@
 -- The printed element, which a page stands for.
-use Rattle.std.specs.Prelude.{ℕ, ℤ, pos, List, Option}
+use Rattle.std.specs.Prelude.{ℕ, ℤ, List, Option}
 use Rattle.spec_space.specs.declared.Plane.{Plane}
 use Rattle.spec_page.specs.declared.Corner.{Corner}
 use Rattle.spec_place.specs.declared.transform.Transform.{Transform}
@@ -18,12 +18,3 @@ pub record Element : Type 0 where
   pub corners : List Corner
   pub faces : List Face
   pub six : Option ℤ
-
--- the frame of the world
-abbrev pub world_frame : Transform
-world_frame = record {
-  x = record { x = pos 1000000000; y = pos 0; z = pos 0 };
-  y = record { x = pos 0; y = pos 1000000000; z = pos 0 };
-  z = record { x = pos 0; y = pos 0; z = pos 1000000000 };
-  off = record { x = pos 0; y = pos 0; z = pos 0 };
-}

@@ -1,11 +1,11 @@
 -- What an input is: a file that is converted, or one that is refused, and why.
-use Rattle.std.specs.Prelude.{◌≡◌, ℕ, ◌^◌, ◌≤◌, ◌<◌, List, length, Ok, Err}
+use Rattle.std.specs.Prelude.{◌≡◌, ℕ, ℤ, ◌^◌, ◌≤◌, ◌<◌, List, length, Ok, Err}
 use Rattle.spec_step.specs.declared.tree.Entry.{Entry}
 use Rattle.spec_step.specs.declared.fault.StepFault.{StepFault}
 use Rattle.spec_step.specs.declared.fault.StepFault.TheVariants as step
 use Rattle.spec_step.specs.Files.{IsAccepted, IsCause}
 use Rattle.spec_table.specs.Sections.{DataSection}
-use Rattle.spec_entity.specs.Units.{length_unit}
+use Rattle.spec_geometry.specs.Units.{length_unit}
 use Rattle.spec_refusal.specs.declared.UnitFault.{UnitFault}
 use Rattle.spec_refusal.specs.declared.UnitFault.TheVariants as unit
 use Rattle.spec_run.specs.declared.FileFault.{FileFault}
@@ -22,10 +22,11 @@ pub record IsFileWith (given : List ℕ) (section : DataSection) : Type 0 where
   pub head : List Entry
   pub accepted : IsAccepted given head section.instances
 
--- such a file with a project and a unit of length that is read: its elements are converted, or named by their own lines
-pub record IsInput (given : List ℕ) (section : DataSection) : Type 0 where
+-- such a file with a project and a unit of length that is read, in nanometres: its elements are converted, or named by their
+-- own lines
+pub record IsInput (given : List ℕ) (section : DataSection) (unit : ℤ) : Type 0 where
   pub file : IsFileWith given section
-  pub unit : length_unit section ≡ Ok tt
+  pub measured : length_unit section ≡ Ok unit
 
 -- the text is no file, or does not pass the checks
 pub record IsNoFile (given : List ℕ) (why : StepFault) : Type 0 where

@@ -16,7 +16,7 @@ use Rattle.spec_refusal.specs.declared.Refusal.TheVariants.{Unsupported}
 use Rattle.spec_refusal.specs.Reads.{Read, next}
 use Rattle.spec_shape.specs.Shapes.{Face, face_count, Shape, Faces, Half, Combined, nothing, united, ShapeItem, ElementShape, count_triangles, item_count, element_count, prism_faces, block_faces}
 use Rattle.spec_entity.specs.Reads.{has_kind, is_one_of, instance_of_kinds, named_instance, member_instance, members, wanted_value}
-use Rattle.spec_entity.specs.Solids.{operator}
+use Rattle.spec_entity.specs.Operators.{operator}
 use Rattle.spec_entity.specs.Elements.{Representation, representation}
 use Rattle.spec_geometry.specs.Files.{File, positive, boolean, wanted_instance}
 use Rattle.spec_geometry.specs.Points.{direction}

@@ -1,3 +1,3 @@
 mod Divisors
-mod Sizes
+pub mod Sizes
 pub mod Laws

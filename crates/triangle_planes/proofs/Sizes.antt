@@ -8,7 +8,7 @@ use Rattle.spec_solid.specs.Triangles.{Triangle, turn}
 use Rattle.spec_solid.specs.Planes.{plane_through, upright_plane}
 use Rattle.integer_laws.proofs.Sizes.{size_add, size_sub, size_mul}
 use Rattle.integer_laws.proofs.Ring.{var, con, neg, ◌⊕◌, ◌⊗◌, ◌⊖◌, ring}
-use Rattle.grid_boxes.specs.Ranges.{AreSteps}
+use Rattle.ray_law.specs.Ranges.{AreSteps}
 use Rattle.grid_solid.specs.Triangles.{IsNear}
 use Rattle.triangle_planes.specs.Sizes.{AreRuns, AreAreas}
 use Rattle.triangle_planes.specs.Planes.{IsPlane}

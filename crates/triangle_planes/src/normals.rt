@@ -2,7 +2,7 @@ ghost use Rattle.std.specs.Prelude.{◌≡◌, ◌*◌, ◌+◌, ◌≤◌, ◌^
 ghost use Rattle.spec_space.specs.Points.{minus, cross, dot};
 ghost use Rattle.spec_solid.specs.Triangles.{turn};
 ghost use Rattle.spec_solid.specs.Planes.{plane_through, upright_plane};
-ghost use Rattle.grid_boxes.specs.Ranges.{AreSteps};
+ghost use Rattle.ray_law.specs.Ranges.{AreSteps};
 ghost use Rattle.grid_solid.specs.Triangles.{triangle_of, IsNear};
 ghost use Rattle.triangle_planes.specs.Sizes.{AreRuns, AreAreas};
 

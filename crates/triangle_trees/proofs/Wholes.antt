@@ -22,7 +22,7 @@ use Rattle.grid_solid.specs.declared.triangles.GridTriangle.{GridTriangle}
 use Rattle.grid_solid.specs.declared.nodes.GridNode.{GridNode}
 use Rattle.grid_solid.specs.declared.nodes.GridNode.TheVariants as nodes
 use Rattle.grid_solid.specs.declared.shells.GridShell.{GridShell}
-use Rattle.triangle_trees.specs.Primitives.{plane_count}
+use Rattle.grid_solid.specs.Counts.{plane_count}
 use Rattle.plane_cells.specs.declared.steps.Step.{Step}
 use Rattle.parity_trees.specs.declared.regions.Region.{Region}
 use Rattle.parity_trees.specs.Regions.{all_sides, IsOffSides, IsParityOf}

@@ -11,7 +11,8 @@ ghost use Rattle.tree_pool.specs.Trees.{Tree};
 ghost use Rattle.tree_pool.specs.Pools.{IsLive, StandsFor, KeepsTrees, AreTrees};
 ghost use Rattle.tree_pool.specs.declared.node.TreeId.{TreeId as AnyId};
 ghost use Rattle.triangle_trees.specs.Forms.{IsGrown, IsTreeOf};
-ghost use Rattle.triangle_trees.specs.Primitives.{IsPrimitive, plane_count};
+ghost use Rattle.grid_solid.specs.Counts.{plane_count};
+ghost use Rattle.triangle_trees.specs.Primitives.{IsPrimitive};
 
 use crate::regions::regions_below;
 use grid_solid::{GridNode, GridTriangle};

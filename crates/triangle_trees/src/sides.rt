@@ -2,7 +2,7 @@ ghost use Rattle.std.specs.Prelude.{◌≡◌, ◌^◌, ◌<◌, ◌+◌, pos, i
 ghost use Rattle.spec_space.specs.Points.{value};
 ghost use Rattle.ray_law.specs.Columns.{is_in_front, point_at};
 ghost use Rattle.plane_core.specs.Views.{plane_of};
-ghost use Rattle.grid_boxes.specs.Ranges.{AreSteps};
+ghost use Rattle.ray_law.specs.Ranges.{AreSteps};
 ghost use Rattle.grid_solid.specs.Triangles.{triangle_of, IsNear};
 ghost use Rattle.triangle_trees.specs.Forms.{IsGrown, IsSideOf, AreSidesBelow};
 

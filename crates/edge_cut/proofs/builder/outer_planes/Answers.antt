@@ -1,6 +1,6 @@
 use Rattle.std.proofs.Common.{false}
 use Rattle.poly_frag.specs.declared.frag.Edge.{Edge}
-use Rattle.piece_mesh.proofs.Turned.{next_plane}
+use Rattle.edge_cut.proofs.Turned.{next_plane}
 use Rattle.edge_cut.proofs.builder.outer_planes.Goals as goal
 
 pub loop-edge-preserved : goal.loop-edge-preserved

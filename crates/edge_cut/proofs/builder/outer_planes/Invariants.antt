@@ -1,6 +1,6 @@
 use Rattle.std.proofs.Common.{◌≡◌, map, take}
 use Rattle.exact_mesh.specs.Meshes.{numbered_plane}
-use Rattle.piece_mesh.specs.Pieces.{outer_side}
+use Rattle.edge_cut.specs.Seen.{outer_side}
 use Rattle.edge_cut.proofs.builder.outer_planes.Given as goal
 
 abbrev pub invariant-loop-edge : goal.invariant-loop-edge

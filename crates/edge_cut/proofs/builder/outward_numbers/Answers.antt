@@ -1,5 +1,5 @@
 use Rattle.plane_core.specs.Views.{plane_of}
-use Rattle.piece_mesh.proofs.Turned.{turned_number, normal_size, turned_plane, seen_from_back}
+use Rattle.edge_cut.proofs.Turned.{turned_number, normal_size, turned_plane, seen_from_back}
 use Rattle.edge_cut.proofs.builder.outward_numbers.Goals as goal
 
 pub returns-else-front_out : goal.returns-else-front_out

@@ -1,4 +1,4 @@
-use Rattle.std.proofs.Common.{◌≡◌, All, IfOk, map, sym, subst}
+use Rattle.std.proofs.Common.{All, IfOk, map, sym, subst}
 use Rattle.std.specs.List.{AllZip, flat_map}
 use Rattle.corner_book.specs.Corners.{corners_of}
 use Rattle.edge_cut.specs.Outlines.{IsOfBook, starts_of, HasCorners}

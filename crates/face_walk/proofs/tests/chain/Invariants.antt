@@ -1,4 +1,3 @@
-use Rattle.tree_pool.specs.declared.node.TreeId.{TreeId}
 use Rattle.tree_pool.specs.Pools.{IsLive}
 use Rattle.face_walk.proofs.tests.chain.Given as goal
 
@@ -6,5 +5,4 @@ abbrev pub invariant-loop-k : goal.invariant-loop-k
 invariant-loop-k l = record {
   tree : IsLive l.pool l.tree;
   no : IsLive l.pool l.no;
-  still_live : (id : TreeId) → IsLive l.fn.pool id → IsLive l.pool id;
 }

@@ -9,7 +9,7 @@ returns-in-Ok g c =
     let found = c.convert.ensures in (
       found.0,
       found.1,
-      found_in (source.left c.args.src.now) (source.left c.read_whole.new.src) (source.faults c.args.src.now) (source.faults c.read_whole.new.src)
+      found_in c.args.job (source.left c.args.src.now) (source.left c.read_whole.new.src) (source.faults c.args.src.now) (source.faults c.read_whole.new.src)
           c.in-Ok.source.items c.convert.new.page.items found.0 c.in-Ok.ensures.all c.in-Ok.ensures.end (c.in-Ok.ensures.kept (search rules))
-          (subst (λ (given : List ℕ). IsFoundAt given c.convert.new.page.items found.0) c.deref.ensures.value found.2),
+          (subst (λ (given : List ℕ). IsFoundAt c.args.job given c.convert.new.page.items found.0) c.deref.ensures.value found.2),
     )

@@ -1,12 +1,16 @@
-use Rattle.std.proofs.Common.{◌∙◌, Ok, ap, map, refl, sym}
-use Rattle.box_solids.specs.Trees.{body_of}
-use Rattle.box_solids.specs.Views.{tree_of}
-use Rattle.plain_engine.specs.Prints.{element_of}
+use Rattle.std.proofs.Common.{◌≤◌, ◌<◌, ◌+◌, ◌*◌, ◌^◌, ◌∙◌, refl, sym, arith}
+use Rattle.grid_solid.specs.Bodies.{body_of}
+use Rattle.spec_grid.specs.Rounded.{round_element}
+use Rattle.solid_expr.specs.Views.{element_of}
+use Rattle.world_print.specs.Elements.{element_of as printed_of}
 use Rattle.ix_page.proofs.PageLists.{converted_item}
 use Rattle.ix_page.proofs.element.made_of.Goals as goal
 
-pub returns-in_ok-make_mesh-in-Ok : goal.returns-in_ok-make_mesh-in-Ok
-returns-in_ok-make_mesh-in-Ok c = λ n.
-    converted_item 1000 n _ (body_of (map tree_of c.deref.result.now)) (element_of n c.in_ok-make_mesh-in-Ok.field-0)
-    (c.in-Ok.ensures.value ∙ ap (λ l. Ok (body_of (map tree_of l))) (sym c.deref.ensures.value))
-    (record { number = refl; frame = refl; print = c.in_ok-make_mesh-in-Ok.ensures.print n })
+pub returns-in_ok-mesh-in-Ok : goal.returns-in_ok-mesh-in-Ok
+returns-in_ok-mesh-in-Ok c =
+    let element = c.args.element.now in
+    let solid = c.in-Ok.solid in
+    let mesh = c.in_ok-mesh-in-Ok.mesh in
+    let made = c.in_ok-mesh-in-Ok.ensures in
+    converted_item c.args.step element.number element.frame (round_element c.args.step (element_of element)) (body_of solid) (printed_of mesh)
+    c.in-Ok.ensures.value (record { number = made.kept.number_kept; placed = made.kept.frame_kept; print = made.print })

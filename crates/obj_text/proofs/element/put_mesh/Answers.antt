@@ -2,7 +2,7 @@ use Rattle.std.proofs.Common.{◌≡◌, ◌++◌, ◌∙◌, ap, sym, map}
 use Rattle.std.specs.List.{flat_map}
 use Rattle.spec_page.specs.Lines.{corner_lines, face_lines, volume_line}
 use Rattle.exact_mesh.specs.Meshes.{face_of}
-use Rattle.plain_engine.specs.Prints.{page_corners}
+use Rattle.world_print.specs.Elements.{page_corners}
 use Rattle.obj_text.proofs.Texts.{joined_three, flat_map-map, on_ok}
 use Rattle.obj_text.proofs.element.put_mesh.Goals as goal
 

@@ -1,7 +1,7 @@
 use Rattle.std.proofs.Common.{◌≡◌, ◌++◌, length}
 use Rattle.std.specs.List.{flat_map}
 use Rattle.spec_page.specs.Lines.{corner_lines}
-use Rattle.plain_engine.specs.Prints.{page_corners}
+use Rattle.world_print.specs.Elements.{page_corners}
 use Rattle.obj_text.proofs.faces.put_corners.Given as goal
 
 -- what was put so far, with what is still to come, is the whole text

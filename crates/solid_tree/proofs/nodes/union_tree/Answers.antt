@@ -8,7 +8,7 @@ use Rattle.grid_solid.specs.Views.{solid_of}
 use Rattle.tree_pool.specs.declared.node.TreeId.{TreeId}
 use Rattle.tree_pool.specs.Pools.{IsLive}
 use Rattle.tree_pool.proofs.Laws.{live_kept}
-use Rattle.triangle_trees.specs.Primitives.{plane_count}
+use Rattle.grid_solid.specs.Counts.{plane_count}
 use Rattle.triangle_trees.proofs.Grown.{grown_more}
 use Rattle.solid_tree.specs.Unions.{HasTree, HaveTrees, AreUnited}
 use Rattle.solid_tree.proofs.Lists.{each_live}

@@ -1,6 +1,6 @@
 use Rattle.std.proofs.Common.{subst, sym, ◌∙◌}
 use Rattle.corner_book.specs.Corners.{AreDistinct}
-use Rattle.piece_mesh.proofs.Corners.{distinct_keys}
+use Rattle.corner_book.proofs.Same.{distinct_keys}
 use Rattle.edge_cut.proofs.builder.MeshBuilder.finish.Goals as goal
 
 pub returns-clause-distinct : goal.returns-clause-distinct

@@ -1,6 +1,6 @@
 use Rattle.std.proofs.Common.{Some, ap, sym, ◌∙◌}
-use Rattle.piece_mesh.proofs.Corners.{corner_eq, same_from_eq}
-use Rattle.piece_mesh.proofs.Order.{next_place}
+use Rattle.corner_book.proofs.Same.{corner_eq, same_from_eq}
+use Rattle.edge_cut.proofs.FirstUse.{next_place}
 use Rattle.edge_cut.proofs.builder.MeshBuilder.place.Goals as goal
 
 pub returns-clause-at : goal.returns-clause-at

@@ -1,7 +1,7 @@
 use Rattle.std.proofs.Common.{◌∷◌, [], length, sym, subst, ◌∙◌}
 use Rattle.edge_cut.specs.Rounds.{corners_of}
-use Rattle.piece_mesh.proofs.Corners.{at_next, grown_next}
-use Rattle.piece_mesh.proofs.Order.{names_append}
+use Rattle.edge_cut.proofs.Places.{at_next, grown_next}
+use Rattle.edge_cut.proofs.FirstUse.{names_append}
 use Rattle.exact_mesh.specs.Order.{NamesNext}
 use Rattle.edge_cut.proofs.builder.MeshBuilder.places.Goals as goal
 

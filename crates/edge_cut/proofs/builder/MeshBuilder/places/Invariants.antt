@@ -1,8 +1,7 @@
 use Rattle.std.proofs.Common.{◌≡◌, length, take}
-use Rattle.piece_mesh.specs.Builders.{IsGrown}
-use Rattle.edge_cut.specs.Rounds.{corners_of}
+use Rattle.edge_cut.specs.Rounds.{corners_of, IsGrown}
 use Rattle.exact_mesh.specs.Order.{NamesNext}
-use Rattle.piece_mesh.specs.Pieces.{AreAt}
+use Rattle.edge_cut.specs.Seen.{AreAt}
 use Rattle.edge_cut.proofs.builder.MeshBuilder.places.Given as goal
 
 abbrev pub invariant-loop-corner : goal.invariant-loop-corner

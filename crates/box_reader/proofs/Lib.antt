@@ -1,4 +1,0 @@
-mod Swept
-mod Deeper
-mod Counts
-mod Chain

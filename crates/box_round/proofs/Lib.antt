@@ -1,3 +1,0 @@
-pub mod BlockFaces
-pub mod Steps
-pub mod ItemsLeft

@@ -1,4 +1,0 @@
-pub mod Trees
-pub mod Views
-pub mod Far
-pub mod Books

@@ -1,0 +1,6 @@
+mod Beside
+mod Meanings
+mod Boundary
+mod Reach
+mod Printed
+mod Made

@@ -1,9 +1,0 @@
-pub mod Orders
-pub mod Edges
-pub mod Fans
-pub mod Pierced
-pub mod Inside
-pub mod Members
-pub mod BoxPlanes
-pub mod Planes
-pub mod Sides

@@ -1,0 +1,3 @@
+mod Divisors
+mod Quotients
+pub mod Forms

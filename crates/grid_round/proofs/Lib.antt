@@ -1,0 +1,9 @@
+mod Lists
+mod NearCorners
+mod Fan
+mod Fitting
+mod ShellLaws
+mod HalfLaws
+mod SolidLaws
+mod Walks
+mod ElementLaws

@@ -1,0 +1,43 @@
+use crate::Job;
+use std::alloc::{AllocError, Global};
+use std::test::Fail;
+
+fn job(alloc: Global, texts: &[&str]) -> Result<Option<Job>, AllocError> {
+    let mut words = Vec::new(alloc);
+    for text in texts {
+        words.push(String::from_str(alloc, text)?)?;
+    }
+    Ok(Job::of_words(&words))
+}
+
+#[test]
+fn reads_words(rt: HostRuntime) -> Result<(), Fail> {
+    let plain = Job::Convert {
+        grid: 1000,
+        only: None,
+    };
+    assert!(rt; job(rt.alloc(), &["convert"])? == Some(plain));
+    let both = Job::Convert {
+        grid: 10_000,
+        only: Some(17),
+    };
+    assert!(rt; job(rt.alloc(), &["convert", "--only=17", "--grid=10000"])? == Some(both));
+    for word in [
+        "--grid=0",
+        "--grid=01",
+        "--grid=+1",
+        "--grid=",
+        "--grid=10001",
+        "--grid=1 ",
+        "--Grid=1",
+        "--only=1234567890123456789",
+        "--format=xyz",
+        "convert",
+    ] {
+        assert!(rt; job(rt.alloc(), &["convert", word])?.is_none(), "{word}");
+    }
+    assert!(rt; job(rt.alloc(), &["convert", "--grid=1", "--grid=1"])?.is_none());
+    assert!(rt; job(rt.alloc(), &["--grid=1", "convert"])?.is_none());
+    assert!(rt; job(rt.alloc(), &[])?.is_none());
+    Ok(())
+}

@@ -1,7 +1,0 @@
-use Rattle.std.proofs.Common.{subst, sym, ◌∙◌}
-use Rattle.piece_mesh.specs.Builders.{AreDistinct}
-use Rattle.piece_mesh.proofs.Corners.{distinct_keys}
-use Rattle.piece_mesh.proofs.builder.MeshBuilder.finish.Goals as goal
-
-pub returns-clause-distinct : goal.returns-clause-distinct
-returns-clause-distinct c = subst AreDistinct (sym (c.in_ok-corners.ensures.items ∙ c.as_slice.ensures.keys)) (distinct_keys c.args.self.corners.keys c.as_slice.ensures.unique)

@@ -1,7 +1,0 @@
-use Rattle.std.proofs.Common.{◌≡◌, map, take}
-use Rattle.exact_mesh.specs.Meshes.{numbered_plane}
-use Rattle.piece_mesh.specs.Pieces.{outer_side}
-use Rattle.piece_mesh.proofs.outward.edge_planes.Given as goal
-
-abbrev pub invariant-loop-edge : goal.invariant-loop-edge
-invariant-loop-edge l = map numbered_plane l.planes.items ≡ map (outer_side l.book) (take l.edge-index l.frag.edges.items)

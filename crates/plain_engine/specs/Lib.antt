@@ -1,3 +1,0 @@
-pub mod Meanings
-pub mod Parts
-pub mod Prints
