@@ -1,10 +1,11 @@
 ghost use Rattle.std.specs.Prelude.{◌≤◌, ◌^◌, ◌-◌, unsigned_abs};
-ghost use Rattle.spec_place.specs.Vectors.{IsWithin, vector_of};
+ghost use Rattle.spec_place.specs.Vectors.{IsWithin};
 
 use crate::{RoundFault, round_solid};
 use grid_solid::{GridNode, GridShell, GridSolid};
 use ix_place::{Dir, Frame, Map};
-use solid_expr::{ElementSolid, Item, Solid, block_faces};
+use ix_profile::{Loop, Loops};
+use solid_expr::{ElementSolid, Face, Item, Solid, block_faces};
 use spec_refusal::Refusal;
 use spec_solid::BoolOp;
 use spec_space::Vector;
@@ -94,10 +95,10 @@ fn rounds_a_cube_and_reduces_a_half_space(rt: HostRuntime) -> Result<(), Fail> {
     Ok(())
 }
 
-/// A cube without one of its sides.
+/// A cube without its top.
 fn open_cube(alloc: Global, at: u64, length: u32) -> Result<Solid, AllocError> {
     let mut faces = block_faces(alloc, at, &diagonal(length))?;
-    faces.truncate(5);
+    let _top = faces.remove(1);
     Ok(Solid::Faces {
         at,
         map: Map::of_frame(&Frame::identity()),
@@ -132,14 +133,75 @@ fn names_the_first_refusal(rt: HostRuntime) -> Result<(), Fail> {
     );
     let open = element(
         alloc,
-        open_cube(alloc, 9, 1000)?,
+        open_cube(alloc, 9, 1_000_000)?,
         cube(alloc, 7, 2_000_000_000)?,
     )?;
-    let refusal = Refusal::OpenShell {
-        at: 9,
-        from: Vector { x: 0, y: 0, z: 0 },
-        to: Vector { x: 0, y: 0, z: 1 },
+    let from = Vector {
+        x: 0,
+        y: 0,
+        z: 1000,
     };
+    let to = Vector {
+        x: 0,
+        y: 1000,
+        z: 1000,
+    };
+    let refusal = Refusal::OpenShell { at: 9, from, to };
     assert_eq!(rt; fault(alloc, &open), Some(RoundFault::Refused(refusal)));
+    Ok(())
+}
+
+/// The place with so many micrometres along each axis.
+fn place(x: u32, y: u32, z: u32) -> Vector
+    ensures { IsWithin (2 ^ 62 - 1) result }
+{
+    Vector {
+        x: i128::from(x) * 1000,
+        y: i128::from(y) * 1000,
+        z: i128::from(z) * 1000,
+    }
+}
+
+/// The triangle of three places.
+fn triangle(alloc: Global, at: u64, a: Vector, b: Vector, c: Vector) -> Result<Face, AllocError>
+    requires a { IsWithin (2 ^ 62 - 1) a }
+    requires b { IsWithin (2 ^ 62 - 1) b }
+    requires c { IsWithin (2 ^ 62 - 1) c }
+{
+    let mut loops = Loops::new(alloc);
+    loops.push(Loop {
+        points: Vec::from_array(alloc, [a, b, c])?,
+    })?;
+    Ok(Face::of_loops(at, loops))
+}
+
+/// A tetrahedron with a right corner at 0 and legs of so many micrometres along the axes. Its slanted face has the number 14.
+fn tetrahedron(alloc: Global, x: u32, y: u32, z: u32) -> Result<Solid, AllocError> {
+    let (low, a, b, c) = (
+        place(0, 0, 0),
+        place(x, 0, 0),
+        place(0, y, 0),
+        place(0, 0, z),
+    );
+    let mut faces = Vec::new(alloc);
+    faces.push(triangle(alloc, 11, low, b, a)?)?;
+    faces.push(triangle(alloc, 12, low, c, b)?)?;
+    faces.push(triangle(alloc, 13, low, a, c)?)?;
+    faces.push(triangle(alloc, 14, a, b, c)?)?;
+    Ok(Solid::Faces {
+        at: 7,
+        map: Map::of_frame(&Frame::identity()),
+        faces,
+    })
+}
+
+#[test]
+fn refuses_planes_past_the_limit(rt: HostRuntime) -> Result<(), Fail> {
+    let alloc = rt.alloc();
+    let small = element(alloc, tetrahedron(alloc, 8191, 8192, 1)?, half(8, true)?)?;
+    assert_eq!(rt; fault(alloc, &small), None);
+    let large = element(alloc, tetrahedron(alloc, 8192, 8193, 1)?, half(8, true)?)?;
+    let refusal = Refusal::PlaneTooLarge { at: 14 };
+    assert_eq!(rt; fault(alloc, &large), Some(RoundFault::Refused(refusal)));
     Ok(())
 }
