@@ -8,6 +8,8 @@
     python3 scripts/inputs.py chain N          a block less N half-spaces, one after the other
     python3 scripts/inputs.py boxes N          the union of N boxes, no two of which have a plane in common
     python3 scripts/inputs.py brep N           a closed shell of about N triangles
+    python3 scripts/inputs.py edges N          a prism over a polygon of N edges
+    python3 scripts/inputs.py page N           the elements of the page on standard input over and over, to about N bytes
 """
 import math
 import os
@@ -155,7 +157,31 @@ def brep(count):
     with_item(lines, 51)
 
 
-shapes = {'points': points, 'walls': walls, 'holes': holes, 'half_spaces': half_spaces, 'chain': chain, 'boxes': boxes, 'brep': brep}
+def edges(count):
+    at = [(1000 * math.cos(2 * math.pi * k / count), 1000 * math.sin(2 * math.pi * k / count)) for k in range(count)]
+    lines = ['#%d=IFCCARTESIANPOINT((%d.,%d.));' % (1000 + k, round(x), round(y)) for k, (x, y) in enumerate(at)]
+    lines += ['#50=IFCPOLYLINE((%s));' % ','.join('#%d' % (1000 + k % count) for k in range(count + 1)),
+              '#51=IFCARBITRARYCLOSEDPROFILEDEF(.AREA.,$,#50);', '#52=IFCEXTRUDEDAREASOLID(#51,$,#8,1000.);']
+    with_item(lines, 52)
+
+
+def page(size):
+    lines = sys.stdin.read().splitlines(True)
+    elements, corners = lines[2:-1], sum(line.startswith('#c') for line in lines)
+    sys.stdout.writelines(lines[:2])
+    written = before = 0
+    while written < size:
+        for line in elements:
+            if line.startswith('f '):
+                line = 'f ' + ' '.join(str(int(i) + before) for i in line.split()[1:]) + '\n'
+            sys.stdout.write(line)
+            written += len(line)
+        before += corners
+    sys.stdout.write(lines[-1])
+
+
+shapes = {'points': points, 'walls': walls, 'holes': holes, 'half_spaces': half_spaces, 'chain': chain, 'boxes': boxes, 'brep': brep,
+          'edges': edges, 'page': page}
 if sys.argv[1:] == ['large']:
     large()
 elif len(sys.argv) == 3 and sys.argv[1] in shapes:

@@ -6,7 +6,8 @@ use Rattle.spec_solid.specs.Solids.{Body}
 use Rattle.spec_place.specs.declared.transform.Transform.{Transform}
 use Rattle.spec_page.specs.World.{rounded_image, printed_volume}
 use Rattle.spec_headline.specs.Headline.{IsPrintOf}
-use Rattle.spec_headline.specs.Reduced.{IsReducedPoint}
+use Rattle.spec_place.specs.Transforms.{IsFrame}
+use Rattle.spec_headline.specs.Reduced.{IsCornerWithin}
 use Rattle.grid_solid.specs.Bodies.{body_of}
 use Rattle.grid_solid.specs.declared.solids.GridSolid.{GridSolid}
 use Rattle.ifc_kinds.specs.declared.kind.Kind.{Kind}
@@ -66,7 +67,7 @@ surface_places body mesh s = all_from_each (λ f. All (λ i. i < length mesh.cor
 
 -- the printed mesh has all that is promised of it
 pub printed : (s : GridSolid) (number : ℕ) (kind : Kind) (frame : Transform) (step : ℕ) (mesh : ExactMesh) → IsSurfaceOf (body_of s) mesh → (r : Result ElementMesh AllocError) → IfOk r (IsMeshOf number kind frame step mesh)
-    → IfOk r (λ m. All (λ c. c.printed ≡ rounded_image frame step c.exact) (element_of m).corners) → IfOk r (λ m. All (λ c. IsReducedPoint c.exact) (element_of m).corners)
+    → IfOk r (λ m. All (λ c. c.printed ≡ rounded_image frame step c.exact) (element_of m).corners) → IfOk r (λ m. IsFrame (element_of m).frame) → IfOk r (λ m. All IsCornerWithin (element_of m).corners)
     → IfOk r (λ m. m.six ≡ within_128_bits (printed_volume (element_of m))) → IfOk r (λ m. IsPrintOf (body_of s) step (element_of m))
-printed s number kind frame step mesh surface (Ok m) kept rounded points volume = print_of s number kind frame step mesh surface m kept rounded points volume
-printed s number kind frame step mesh surface (Err e) kept rounded points volume = tt
+printed s number kind frame step mesh surface (Ok m) kept rounded framed limits volume = print_of s number kind frame step mesh surface m kept rounded framed limits volume
+printed s number kind frame step mesh surface (Err e) kept rounded framed limits volume = tt

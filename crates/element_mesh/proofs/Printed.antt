@@ -15,7 +15,8 @@ use Rattle.spec_page.specs.declared.Corner.{Corner as PageCorner}
 use Rattle.spec_page.specs.Element.{Face, Element}
 use Rattle.spec_page.specs.World.{rounded_image, printed_volume}
 use Rattle.spec_headline.specs.Headline.{IsPrintOf}
-use Rattle.spec_headline.specs.Reduced.{IsReducedPoint, IsPrintedPlane}
+use Rattle.spec_place.specs.Transforms.{IsFrame}
+use Rattle.spec_headline.specs.Reduced.{IsCornerWithin, IsPrintedPlane}
 use Rattle.plane_core.specs.declared.numbers.Plane.{Plane as BookPlane}
 use Rattle.plane_core.specs.declared.numbers.Corner.{Corner}
 use Rattle.plane_core.specs.Views.{plane_of, point_of}
@@ -140,7 +141,7 @@ tree_of_book planes body t means k has = by (means.among k has)
 
 -- ---- the print
 module _ (s : GridSolid) (number : ℕ) (kind : Kind) (frame : Transform) (step : ℕ) (mesh : ExactMesh) (surface : IsSurfaceOf (body_of s) mesh) (m : ElementMesh) (kept : IsMeshOf number kind frame step mesh m)
-    (rounded : All (λ c. c.printed ≡ rounded_image frame step c.exact) (element_of m).corners) (points : All (λ c. IsReducedPoint c.exact) (element_of m).corners) (volume : m.six ≡ within_128_bits (printed_volume (element_of m))) where
+    (rounded : All (λ c. c.printed ≡ rounded_image frame step c.exact) (element_of m).corners) (framed : IsFrame (element_of m).frame) (limits : All IsCornerWithin (element_of m).corners) (volume : m.six ≡ within_128_bits (printed_volume (element_of m))) where
   abbrev e : Element
   e = element_of m
 
@@ -191,7 +192,8 @@ module _ (s : GridSolid) (number : ℕ) (kind : Kind) (frame : Transform) (step 
   pub print_of : IsPrintOf (body_of s) step e
   print_of = record {
     rounded = subst (λ t. All (λ c. c.printed ≡ rounded_image t step c.exact) e.corners) (sym kept.frame_kept) rounded;
-    points = points;
+    frame = framed;
+    corners = limits;
     volume = volume;
     full = faces_full planes corners pieces e has_corners cycles cut;
     planes = all_from_each (λ f. IsPlaneOf (body_of s) f.plane ⊎ IsPlaneOf (body_of s) (opposite f.plane)) e.faces

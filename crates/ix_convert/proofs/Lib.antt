@@ -1,2 +1,4 @@
 pub mod OneInput
 pub mod Causes
+pub mod OneLine
+pub mod SoundPages

@@ -7,7 +7,7 @@ use Rattle.spec_geometry.specs.Units.{length_unit}
 use Rattle.spec_refusal.specs.declared.UnitFault.{UnitFault}
 use Rattle.spec_refusal.specs.declared.UnitFault.TheVariants as fault
 use Rattle.spec_run.specs.declared.FileFault.{FileFault}
-use Rattle.spec_run.specs.declared.FileFault.TheVariants.{TooLarge, Syntax, Nested, Schema, DuplicateNumber, NoProject, NoLengthUnit}
+use Rattle.spec_run.specs.declared.FileFault.TheVariants.{TooLarge, Syntax, Nested, Schema, DuplicateNumber, NoProject, NoLengthUnit, Line}
 use Rattle.spec_run.specs.Inputs.{most_bytes, IsFileWith, IsInput, IsNoFile, LacksUnit, IsFaultOf}
 use Rattle.step_text.proofs.OneAnswer.{one_file, one_cause, no_cause}
 
@@ -46,6 +46,7 @@ kind_of given Schema h = no_file step.Schema h
 kind_of given (DuplicateNumber n first second) h = no_file (step.DuplicateNumber n first second) h
 kind_of given NoProject h = no_unit fault.NoProject h
 kind_of given NoLengthUnit h = no_unit fault.NoLengthUnit h
+kind_of given (Line n) h = absurd h
 
 too_long : (n : ℕ) → n ≤ most_bytes → most_bytes < n → ⊥
 too_long n p q = omega arith

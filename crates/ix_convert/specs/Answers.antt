@@ -1,11 +1,10 @@
 -- Answers: a status and a report, before anything is written.
-use Rattle.std.specs.Prelude.{◌≡◌, ℕ, List, [], ⊤, ◌⊎◌}
+use Rattle.std.specs.Prelude.{◌≡◌, ℕ, List, [], Option, ⊤, ◌⊎◌}
 use Rattle.ix_outside.specs.declared.fault.TakeFault.{TakeFault}
 use Rattle.ix_outside.specs.declared.fault.TakeFault.TheVariants as take
 use Rattle.spec_run.specs.declared.FileFault.TheVariants.{TooLarge}
-use Rattle.spec_run.specs.Findings.{Finding, Page, Refused, ReadFault, NoMemory, Usage, IsPageFor}
-use Rattle.ix_words.specs.declared.job.Job.{Job}
-use Rattle.spec_run.specs.Inputs.{IsFaultOf}
+use Rattle.spec_run.specs.Findings.{Finding, Page, Checked, Generated, Refused, ReadFault, NoMemory, Usage, IsPageOf}
+use Rattle.spec_run.specs.Inputs.{IsFaultOf, IsPageFaultOf, IsCheckOf}
 use Rattle.spec_run.specs.Reports.{report_of}
 use Rattle.ix_convert.specs.Statuses.{status_of}
 use Rattle.ix_convert.specs.declared.answer.Answer.{Answer}
@@ -28,13 +27,25 @@ pub record Tells (answer : Answer) (found : Finding) : Type 0 where
 abbrev pub TellsOrWants : Answer → Finding → Type 0
 TellsOrWants answer found = Tells answer found ⊎ Tells answer NoMemory
 
--- what is found in the bytes of a source that was read to its end
-abbrev pub IsFoundAt : Job → List ℕ → List ℕ → Finding → Type 0
-IsFoundAt job given page (Page items) = IsPageFor job given page items
-IsFoundAt job given page (Refused why) = IsFaultOf given why × (page ≡ [])
-IsFoundAt job given page ReadFault = ⊥
-IsFoundAt job given page NoMemory = ⊤
-IsFoundAt job given page Usage = ⊥
+-- what `convert` finds in the bytes of a source that was read to its end
+abbrev pub IsConvertedAt : ℕ → Option ℕ → List ℕ → List ℕ → Finding → Type 0
+IsConvertedAt grid only given page (Page items) = IsPageOf grid only given page items
+IsConvertedAt grid only given page (Checked verdict) = ⊥
+IsConvertedAt grid only given page (Generated n) = ⊥
+IsConvertedAt grid only given page (Refused why) = IsFaultOf given why × (page ≡ [])
+IsConvertedAt grid only given page ReadFault = ⊥
+IsConvertedAt grid only given page NoMemory = ⊤
+IsConvertedAt grid only given page Usage = ⊥
+
+-- what `check` finds in them
+abbrev pub IsCheckedAt : List ℕ → Finding → Type 0
+IsCheckedAt given (Page items) = ⊥
+IsCheckedAt given (Checked verdict) = IsCheckOf given verdict
+IsCheckedAt given (Generated n) = ⊥
+IsCheckedAt given (Refused why) = IsPageFaultOf given why
+IsCheckedAt given ReadFault = ⊥
+IsCheckedAt given NoMemory = ⊤
+IsCheckedAt given Usage = ⊥
 
 -- the cause of a refusal lies in the bytes; want of memory is free
 abbrev pub HasReason : List ℕ → ConvertFault → Type 0

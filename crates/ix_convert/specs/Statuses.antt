@@ -1,6 +1,8 @@
 -- The statuses: their numbers, and which one each finding has.
 use Rattle.std.specs.Prelude.{ℕ, ◌==◌, Bool, true, false, count_by, if◌then◌else◌}
 use Rattle.spec_page.specs.Items.{is_refused}
+use Rattle.spec_check.specs.declared.Verdict.{Verdict}
+use Rattle.spec_check.specs.declared.Verdict.TheVariants.{Sound, FarCorner, OffPlane, NotConvex, Unbalanced, WrongVolume}
 use Rattle.spec_run.specs.Findings.{Finding}
 use Rattle.spec_run.specs.Findings as finding
 use Rattle.ix_convert.specs.declared.status.Status.{Status}
@@ -20,8 +22,19 @@ code_of CheckFailed = 7
 abbrev pub page_status : ℕ → Status
 page_status refused = if refused == 0 then Done else SomeRefused
 
+-- the status of a page that was checked
+abbrev pub verdict_status : Verdict → Status
+verdict_status Sound = Done
+verdict_status (FarCorner v) = CheckFailed
+verdict_status (OffPlane face) = CheckFailed
+verdict_status (NotConvex face) = CheckFailed
+verdict_status (Unbalanced u v) = CheckFailed
+verdict_status (WrongVolume n) = CheckFailed
+
 abbrev pub status_of : Finding → Status
 status_of (finding.Page items) = page_status (count_by is_refused items)
+status_of (finding.Checked verdict) = verdict_status verdict
+status_of (finding.Generated n) = Done
 status_of (finding.Refused why) = FileRefused
 status_of finding.ReadFault = ReadFault
 status_of finding.NoMemory = NoMemory

@@ -2,7 +2,10 @@
 #![tactic(auto)]
 
 mod answer;
+mod checking;
+mod converting;
 mod deliver;
+mod generating;
 mod open;
 mod report;
 mod run;

@@ -230,3 +230,28 @@ fn answers_faults_of_the_outside(rt: HostRuntime) -> Result<(), Fail> {
     assert!(rt; left.rep.held() == b"read fault\n".as_slice());
     Ok(())
 }
+
+#[test]
+fn checks_its_own_page(rt: HostRuntime) -> Result<(), Fail> {
+    let left = convert(rt.alloc(), &[HEAD, PROJECT, WALL, END])?;
+    let mut source = MemSource::new(left.page.clone()?);
+    let again = run(rt.alloc(), &["check"], &mut source, 4000, 200)?;
+    assert_eq!(rt; again.status, Status::Done);
+    assert!(rt; again.rep.held() == b"sound\n".as_slice());
+    assert!(rt; again.page.is_empty());
+    let bad = Vec::from_slice(rt.alloc(), b"# ifcexact 1\n# grid 0\n# end\n")?;
+    let refused = run(rt.alloc(), &["check"], &mut MemSource::new(bad), 4000, 200)?;
+    assert!(rt; is_refused(&refused, b"refused Line 2\n"));
+    Ok(())
+}
+
+#[test]
+fn generates_without_reading(rt: HostRuntime) -> Result<(), Fail> {
+    let words = ["gen", "--count=2"];
+    let left = run(rt.alloc(), &words, &mut Broken { faults: 0 }, 40_000, 200)?;
+    assert_eq!(rt; left.status, Status::Done);
+    assert!(rt; left.rep.held() == b"generated 2\n".as_slice());
+    assert!(rt; left.out.held() == left.page.as_slice());
+    assert!(rt; has(&left.page, b"#127=IFCWALL"));
+    Ok(())
+}

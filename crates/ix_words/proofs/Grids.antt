@@ -1,4 +1,4 @@
--- The grid of a job is in its range.
+-- The numbers of a job are in their ranges.
 use Rattle.std.proofs.Common.{◌≡◌, ℕ, Bool, true, false, List, [], ◌∷◌, Option, Some, None, IfSome, refl, arith}
 use Rattle.std.specs.Prelude.{nat_le, codes, if◌then◌else◌}
 use Rattle.std.specs.Option.{option_map, option_and_then, unwrap_or}
@@ -6,7 +6,8 @@ use Rattle.std.specs.Str.{bytes_eq}
 use Rattle.std.proofs.lemmas.Bool.{leb-true}
 use Rattle.ix_words.specs.declared.options.Options.{Options}
 use Rattle.ix_words.specs.declared.job.Job.{Job}
-use Rattle.ix_words.specs.Words.{number_of, is_grid, grid_of, behind, no_options, once, with_option, with_word, with_words, convert_with, job_of, IsGrid, HasGrid}
+use Rattle.ix_words.specs.declared.job.Job.TheVariants.{Gen}
+use Rattle.ix_words.specs.Words.{number_of, is_grid, grid_of, behind, no_options, once, with_option, with_word, with_words, convert_with, convert_of, check_of, is_count, count_of, gen_of, job_of, IsGrid, IsCount, IsInRange}
 use Rattle.ix_words.proofs.Numerals.{and_left, and_right}
 
 -- the grid is in its range, if there is one
@@ -53,16 +54,50 @@ told : (o : Option ℕ) → IfSome o IsGrid → IsGrid (unwrap_or o 1000)
 told None h = record { least = omega arith; most = omega arith }
 told (Some grid) h = h
 
-job_fine : (o : Option Options) → IfSome o IsFine → IfSome (option_map convert_with o) HasGrid
+job_fine : (o : Option Options) → IfSome o IsFine → IfSome (option_map convert_with o) IsInRange
 job_fine None h = tt
 job_fine (Some options) h = told options.grid h
 
-chosen : (b : Bool) (o : Option Job) → IfSome o HasGrid → IfSome (if b then o else None) HasGrid
-chosen true o h = h
-chosen false o h = tt
+convert_in_range : (words : List (List ℕ)) → IfSome (convert_of words) IsInRange
+convert_in_range words = job_fine (with_words no_options words) (words_set words no_options tt)
 
-pub job_has_grid : (words : List (List ℕ)) → IfSome (job_of words) HasGrid
-job_has_grid [] = tt
-job_has_grid (word ∷ words) =
-    chosen (bytes_eq word (codes "convert")) (option_map convert_with (with_words no_options words))
-    (job_fine (with_words no_options words) (words_set words no_options tt))
+check_in_range : (words : List (List ℕ)) → IfSome (check_of words) IsInRange
+check_in_range [] = tt
+check_in_range (word ∷ words) = tt
+
+counted : (n : ℕ) (b : Bool) → is_count n ≡ b → IfSome (if b then Some n else None) IsCount
+counted n true e = record {
+  least = leb-true 1 n (and_left (nat_le 1 n) (nat_le n 150) e);
+  most = leb-true n 150 (and_right (nat_le 1 n) (nat_le n 150) e);
+}
+counted n false e = tt
+
+count_read : (o : Option ℕ) → IfSome (option_and_then (λ n. if is_count n then Some n else None) o) IsCount
+count_read None = tt
+count_read (Some n) = counted n (is_count n) refl
+
+count_in_range : (o : Option ℕ) → IfSome o IsCount → IfSome (option_map Gen o) IsInRange
+count_in_range None h = tt
+count_in_range (Some n) h = h
+
+found_in_range : (o : Option (List ℕ)) → IfSome (option_map Gen (option_and_then count_of o)) IsInRange
+found_in_range None = tt
+found_in_range (Some text) = count_in_range (count_of text) (count_read (number_of text))
+
+gen_in_range : (words : List (List ℕ)) → IfSome (gen_of words) IsInRange
+gen_in_range [] = tt
+gen_in_range (word ∷ []) = found_in_range (behind (codes "--count=") word)
+gen_in_range (word ∷ other ∷ words) = tt
+
+chosen : (b : Bool) (o p : Option Job) → IfSome o IsInRange → IfSome p IsInRange → IfSome (if b then o else p) IsInRange
+chosen true o p h k = h
+chosen false o p h k = k
+
+pub job_in_range : (words : List (List ℕ)) → IfSome (job_of words) IsInRange
+job_in_range [] = tt
+job_in_range (word ∷ words) =
+    let gen = if bytes_eq word (codes "gen") then gen_of words else None in
+    let check = if bytes_eq word (codes "check") then check_of words else gen in
+    chosen (bytes_eq word (codes "convert")) (convert_of words) check (convert_in_range words)
+    (chosen (bytes_eq word (codes "check")) (check_of words) gen (check_in_range words)
+    (chosen (bytes_eq word (codes "gen")) (gen_of words) None (gen_in_range words) tt))

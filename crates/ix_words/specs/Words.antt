@@ -1,5 +1,5 @@
 -- The job that the words of a command line stand for, the program's name aside (rules of this project).
-use Rattle.std.specs.Prelude.{ℕ, ◌==◌, ◌≤◌, Bool, false, not, ◌&&◌, nat_le, List, [], ◌∷◌, length, take, drop, Option, Some, None, codes, if◌then◌else◌}
+use Rattle.std.specs.Prelude.{ℕ, ◌==◌, ◌≤◌, Bool, false, not, ◌&&◌, nat_le, List, [], ◌∷◌, length, take, drop, Option, Some, None, ⊤, codes, if◌then◌else◌}
 use Rattle.std.specs.Option.{option_map, option_and_then, unwrap_or}
 use Rattle.std.specs.List.{list_all}
 use Rattle.std.specs.Char.{is_ascii_digit}
@@ -7,7 +7,7 @@ use Rattle.std.specs.Str.{bytes_eq}
 use Rattle.std.specs.Str.Parse.{digits_value}
 use Rattle.ix_words.specs.declared.options.Options.{Options}
 use Rattle.ix_words.specs.declared.job.Job.{Job}
-use Rattle.ix_words.specs.declared.job.Job.TheVariants.{Convert}
+use Rattle.ix_words.specs.declared.job.Job.TheVariants.{Convert, Check, Gen}
 
 -- 1 to 18 digits, of which the first is not 0
 abbrev pub is_numeral : List ℕ → Bool
@@ -62,15 +62,45 @@ with_words options (word ∷ words) = option_and_then (λ read. with_words read 
 abbrev pub convert_with : Options → Job
 convert_with options = Convert (unwrap_or options.grid 1000) options.only
 
--- `convert`, and behind it options
+-- `convert` with options
+abbrev pub convert_of : List (List ℕ) → Option Job
+convert_of words = option_map convert_with (with_words no_options words)
+
+-- `check` alone
+abbrev pub check_of : List (List ℕ) → Option Job
+check_of [] = Some Check
+check_of (word ∷ words) = None
+
+-- a file is generated with from 1 to 150 walls
+abbrev pub is_count : ℕ → Bool
+is_count n = nat_le 1 n && nat_le n 150
+
+abbrev pub count_of : List ℕ → Option ℕ
+count_of text = option_and_then (λ n. if is_count n then Some n else None) (number_of text)
+
+-- `gen` with `--count=N`
+abbrev pub gen_of : List (List ℕ) → Option Job
+gen_of (word ∷ []) = option_map Gen (option_and_then count_of (behind (codes "--count=") word))
+gen_of words = None
+
+-- the first word names the job, and what follows it are the job's options
 abbrev pub job_of : List (List ℕ) → Option Job
 job_of [] = None
-job_of (word ∷ words) = if bytes_eq word (codes "convert") then option_map convert_with (with_words no_options words) else None
+job_of (word ∷ words) =
+    if bytes_eq word (codes "convert") then convert_of words
+    else if bytes_eq word (codes "check") then check_of words
+    else if bytes_eq word (codes "gen") then gen_of words else None
 
 pub record IsGrid (grid : ℕ) : Type 0 where
   pub least : 1 ≤ grid
   pub most : grid ≤ 10000
 
--- the grid of a job is in its range
-abbrev pub HasGrid : Job → Type 0
-HasGrid (Convert grid only) = IsGrid grid
+pub record IsCount (n : ℕ) : Type 0 where
+  pub least : 1 ≤ n
+  pub most : n ≤ 150
+
+-- the numbers of a job are in their ranges
+abbrev pub IsInRange : Job → Type 0
+IsInRange (Convert grid only) = IsGrid grid
+IsInRange Check = ⊤
+IsInRange (Gen n) = IsCount n

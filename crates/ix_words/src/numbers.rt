@@ -1,7 +1,7 @@
 ghost use Rattle.std.specs.Prelude.{◌≡◌};
 ghost use Rattle.std.specs.List.{list_all};
 ghost use Rattle.std.specs.Char.{is_ascii_digit};
-ghost use Rattle.ix_words.specs.Words.{is_numeral, number_of, grid_of};
+ghost use Rattle.ix_words.specs.Words.{is_numeral, number_of, grid_of, count_of};
 
 fn are_digits(text: &[u8]) -> bool
     ensures { result ≡ list_all is_ascii_digit text.now }
@@ -36,6 +36,16 @@ pub(crate) fn grid(text: &str) -> Option<u32>
 {
     match number(text) {
         Some(grid) if grid >= 1 && grid <= 10_000 => Some(grid as u32),
+        _ => None,
+    }
+}
+
+/// The number of walls of a generated file.
+pub(crate) fn count(text: &str) -> Option<u32>
+    ensures { result ≡ count_of text.now }
+{
+    match number(text) {
+        Some(count) if count >= 1 && count <= 150 => Some(count as u32),
         _ => None,
     }
 }

@@ -41,3 +41,16 @@ fn reads_words(rt: HostRuntime) -> Result<(), Fail> {
     assert!(rt; job(rt.alloc(), &[])?.is_none());
     Ok(())
 }
+
+#[test]
+fn reads_the_words_of_other_jobs(rt: HostRuntime) -> Result<(), Fail> {
+    assert!(rt; job(rt.alloc(), &["check"])? == Some(Job::Check));
+    assert!(rt; job(rt.alloc(), &["check", "--grid=1"])?.is_none());
+    assert!(rt; job(rt.alloc(), &["gen", "--count=150"])? == Some(Job::Gen { count: 150 }));
+    for word in ["--count=0", "--count=151", "--count=02", "--grid=1"] {
+        assert!(rt; job(rt.alloc(), &["gen", word])?.is_none(), "{word}");
+    }
+    assert!(rt; job(rt.alloc(), &["gen"])?.is_none());
+    assert!(rt; job(rt.alloc(), &["gen", "--count=1", "--count=1"])?.is_none());
+    Ok(())
+}

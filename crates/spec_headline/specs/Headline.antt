@@ -5,7 +5,8 @@ use Rattle.spec_space.specs.declared.Plane.{Plane}
 use Rattle.spec_space.specs.Points.{IsPoint, opposite}
 use Rattle.spec_solid.specs.Solids.{Body}
 use Rattle.spec_solid.specs.Planes.{IsPlaneOf, IsAlone, boundary_at}
-use Rattle.spec_headline.specs.Reduced.{IsReducedPoint, IsPrintedPlane}
+use Rattle.spec_place.specs.Transforms.{IsFrame}
+use Rattle.spec_headline.specs.Reduced.{IsCornerWithin, IsPrintedPlane}
 use Rattle.spec_page.specs.Element.{Element}
 use Rattle.spec_page.specs.Faces.{IsFull, faces_at, edge_count}
 use Rattle.spec_page.specs.World.{rounded_image, printed_volume}
@@ -14,7 +15,9 @@ use Rattle.spec_num.specs.Words.{within_128_bits}
 pub record IsPrintOf (body : Body) (grid : ℕ) (e : Element) : Type 0 where
   -- each printed corner is the exact image of its exact corner, rounded
   pub rounded : All (λ c. c.printed ≡ rounded_image e.frame grid c.exact) e.corners
-  pub points : All (λ c. IsReducedPoint c.exact) e.corners
+  -- frame and corners keep the limits of their sizes
+  pub frame : IsFrame e.frame
+  pub corners : All IsCornerWithin e.corners
   -- the volume is that of the printed mesh, or none where it passes 128 bits
   pub volume : e.six ≡ within_128_bits (printed_volume e)
   -- each face is full, and on a plane of the element, seen from one of its sides

@@ -1,5 +1,9 @@
--- What an input is: a file that is converted, or one that is refused, and why.
+-- What an input is: a file that is converted or a page that is checked, or one that is refused, and why.
 use Rattle.std.specs.Prelude.{◌≡◌, ℕ, ℤ, ◌^◌, ◌≤◌, ◌<◌, List, length, Ok, Err}
+use Rattle.spec_page.specs.Items.{Item}
+use Rattle.spec_check.specs.Grammar.{IsPageText, IsBadLine}
+use Rattle.spec_check.specs.Verdicts.{IsVerdict, elements_in}
+use Rattle.spec_check.specs.declared.Verdict.{Verdict}
 use Rattle.spec_step.specs.declared.tree.Entry.{Entry}
 use Rattle.spec_step.specs.declared.fault.StepFault.{StepFault}
 use Rattle.spec_step.specs.declared.fault.StepFault.TheVariants as step
@@ -9,7 +13,7 @@ use Rattle.spec_geometry.specs.Units.{length_unit}
 use Rattle.spec_refusal.specs.declared.UnitFault.{UnitFault}
 use Rattle.spec_refusal.specs.declared.UnitFault.TheVariants as unit
 use Rattle.spec_run.specs.declared.FileFault.{FileFault}
-use Rattle.spec_run.specs.declared.FileFault.TheVariants.{TooLarge, Syntax, Nested, Schema, DuplicateNumber, NoProject, NoLengthUnit}
+use Rattle.spec_run.specs.declared.FileFault.TheVariants.{TooLarge, Syntax, Nested, Schema, DuplicateNumber, NoProject, NoLengthUnit, Line}
 
 -- the greatest number of bytes that are read
 abbrev pub most_bytes : ℕ
@@ -39,7 +43,7 @@ pub record LacksUnit (given : List ℕ) (why : UnitFault) : Type 0 where
   pub file : IsFileWith given section
   pub unit : length_unit section ≡ Err why
 
--- why these bytes are refused: exactly one of these holds of bytes that are no input
+-- why these bytes are refused as a file: exactly one of these holds of bytes that are no file that is converted
 abbrev pub IsFaultOf : List ℕ → FileFault → Type 0
 IsFaultOf given TooLarge = most_bytes < length given
 IsFaultOf given (Syntax at) = IsNoFile given (step.Syntax at)
@@ -48,3 +52,34 @@ IsFaultOf given Schema = IsNoFile given step.Schema
 IsFaultOf given (DuplicateNumber n first second) = IsNoFile given (step.DuplicateNumber n first second)
 IsFaultOf given NoProject = LacksUnit given unit.NoProject
 IsFaultOf given NoLengthUnit = LacksUnit given unit.NoLengthUnit
+IsFaultOf given (Line n) = ⊥
+
+-- Pages that are checked.
+
+-- the bytes are the page of these items, which keep the limits
+pub record IsPageInput (given : List ℕ) (grid : ℕ) (items : List Item) : Type 0 where
+  pub small : length given ≤ most_bytes
+  pub page : IsPageText given grid items
+
+-- the text is no page, and its line n is the first that is not allowed
+pub record IsNoPage (given : List ℕ) (n : ℕ) : Type 0 where
+  pub small : length given ≤ most_bytes
+  pub line : IsBadLine given n
+
+-- why these bytes are refused as a page: exactly one of these holds of bytes that are no page
+abbrev pub IsPageFaultOf : List ℕ → FileFault → Type 0
+IsPageFaultOf given TooLarge = most_bytes < length given
+IsPageFaultOf given (Line n) = IsNoPage given n
+IsPageFaultOf given (Syntax at) = ⊥
+IsPageFaultOf given (Nested at) = ⊥
+IsPageFaultOf given Schema = ⊥
+IsPageFaultOf given (DuplicateNumber n first second) = ⊥
+IsPageFaultOf given NoProject = ⊥
+IsPageFaultOf given NoLengthUnit = ⊥
+
+-- what is found of the elements of a page
+pub record IsCheckOf (given : List ℕ) (verdict : Verdict) : Type 0 where
+  pub grid : ℕ
+  pub items : List Item
+  pub input : IsPageInput given grid items
+  pub verdict_is : IsVerdict grid (elements_in items) verdict

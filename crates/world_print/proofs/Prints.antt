@@ -10,7 +10,7 @@ use Rattle.spec_place.specs.Transforms.{IsFrame}
 use Rattle.spec_place.specs.Vectors.{IsWithin}
 use Rattle.spec_page.specs.declared.Corner.{Corner as PageCorner}
 use Rattle.spec_page.specs.World.{rounded_image}
-use Rattle.spec_headline.specs.Reduced.{IsReducedPoint}
+use Rattle.spec_headline.specs.Reduced.{IsReducedPoint, IsCornerWithin}
 use Rattle.plane_core.specs.declared.numbers.Corner.{Corner}
 use Rattle.plane_core.specs.Views.{point_of}
 use Rattle.plane_core.proofs.Laws.{divides_size}
@@ -132,8 +132,21 @@ corner_reduced c = record {
   divisors = λ m q t. c.coprime (unsigned_abs m) (divides_size m q.x c.x t.0) (divides_size m q.y c.y t.1) (divides_size m q.z c.z t.2) (divides_size m q.w c.w t.3);
 }
 
-pub each_reduced : (cs : List Corner) (vs : List (List ℤ)) → All (λ (c : PageCorner). IsReducedPoint c.exact) (page_corners cs vs)
-each_reduced [] vs = All-nil (λ (c : PageCorner). IsReducedPoint c.exact)
-each_reduced (c ∷ cs) [] = All-nil (λ (c : PageCorner). IsReducedPoint c.exact)
-each_reduced (c ∷ cs) (v ∷ vs) =
-    All-cons (λ (c : PageCorner). IsReducedPoint c.exact) (record { exact = point_of c; printed = vector_of v }) (page_corners cs vs) (corner_reduced c) (each_reduced cs vs)
+corner_within : (c : Corner) (v : List ℤ) → IsOnGrid c → IsPrintable v → IsCornerWithin (record { exact = point_of c; printed = vector_of v })
+corner_within c v on printed = (
+  record {
+    reduced = corner_reduced c;
+    weight = c.w_small;
+    size = record { x = c.x_small; y = c.y_small; z = c.z_small };
+    reach = record { x = on.x; y = on.y; z = on.z };
+  },
+  printed,
+)
+
+pub each_within : (cs : List Corner) (vs : List (List ℤ)) → All IsOnGrid cs → All IsPrintable vs → All IsCornerWithin (page_corners cs vs)
+each_within [] vs on printed = All-nil IsCornerWithin
+each_within (c ∷ cs) [] on printed = All-nil IsCornerWithin
+each_within (c ∷ cs) (v ∷ vs) on printed =
+    All-cons IsCornerWithin (record { exact = point_of c; printed = vector_of v }) (page_corners cs vs)
+    (corner_within c v (All-head IsOnGrid c cs on) (All-head IsPrintable v vs printed))
+    (each_within cs vs (All-tail IsOnGrid c cs on) (All-tail IsPrintable v vs printed))

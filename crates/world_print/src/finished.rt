@@ -2,7 +2,7 @@ ghost use Rattle.std.specs.Prelude.{◌≡◌, length, map, All, IfOk};
 ghost use Rattle.spec_num.specs.Words.{within_128_bits};
 ghost use Rattle.spec_place.specs.Transforms.{IsFrame};
 ghost use Rattle.spec_page.specs.World.{rounded_image, printed_volume};
-ghost use Rattle.spec_headline.specs.Reduced.{IsReducedPoint};
+ghost use Rattle.spec_headline.specs.Reduced.{IsCornerWithin};
 ghost use Rattle.plane_core.specs.Views.{point_of};
 ghost use Rattle.exact_mesh.specs.Meshes.{vector_of};
 ghost use Rattle.world_print.specs.Ranges.{IsStep, IsOnGrid, HasItsCorners};
@@ -57,7 +57,8 @@ pub fn finish(
     ensures kept { IfOk result (IsMeshOf number kind frame step mesh) }
     ensures printed { IfOk result (λ m. map vector_of m.printed.items ≡ map (λ c. rounded_image frame step (point_of c)) mesh.corners.items) }
     ensures rounded { IfOk result (λ m. All (λ c. c.printed ≡ rounded_image frame step c.exact) (element_of m).corners) }
-    ensures points { IfOk result (λ m. All (λ c. IsReducedPoint c.exact) (element_of m).corners) }
+    ensures frame { IfOk result (λ m. IsFrame (element_of m).frame) }
+    ensures corners { IfOk result (λ m. All IsCornerWithin (element_of m).corners) }
     ensures volume { IfOk result (λ m. m.six ≡ within_128_bits (printed_volume (element_of m))) }
 {
     let printed = print_corners(alloc, &frame.transform, step, &mesh.corners)?;

@@ -10,4 +10,4 @@ finish-requires-clause-places c = surface_places (body_of c.args.solid.now) c.in
 
 pub returns-clause-print : goal.returns-clause-print
 returns-clause-print c =
-    printed c.args.solid.now c.args.number c.args.kind c.args.frame c.args.step c.in_ok-mesh.mesh c.in_ok-mesh.ensures c.finish.result c.finish.ensures.kept c.finish.ensures.rounded c.finish.ensures.points c.finish.ensures.volume
+    printed c.args.solid.now c.args.number c.args.kind c.args.frame c.args.step c.in_ok-mesh.mesh c.in_ok-mesh.ensures c.finish.result c.finish.ensures.kept c.finish.ensures.rounded c.finish.ensures.frame c.finish.ensures.corners c.finish.ensures.volume

@@ -1,7 +1,8 @@
 use Rattle.std.proofs.Common.{map, Global}
 use Rattle.std.specs.Prelude.{string_bytes}
 use Rattle.spec_outside.specs.Ends.{known}
-use Rattle.ix_convert.proofs.Causes.{run_of}
+use Rattle.ix_convert.proofs.Causes.{run_of, put_of}
+use Rattle.ix_convert.proofs.SoundPages.{sound_of}
 use Rattle.ix_convert.proofs.run.convert_run.Goals as goal
 
 pub returns-clause-run : goal.returns-clause-run
@@ -16,3 +17,20 @@ returns-clause-run g c =
     (known (out.held c.args.out.now) (out.faults c.args.out.now)) (known (out.held c.deliver.new.out) (out.faults c.deliver.new.out))
     (known (rep.held c.args.rep.now) (rep.faults c.args.rep.now)) (known (rep.held c.deliver.new.rep) (rep.faults c.deliver.new.rep))
     answer.result c.deliver.result found.0 found.1 found.2 c.deref.ensures.value c.text.ensures c.deliver.ensures.delivered
+
+pub returns-clause-headline : goal.returns-clause-headline
+returns-clause-headline g c put =
+    let source = g.S.Source in
+    let out = g.O.Sink in
+    let rep = g.R.Sink in
+    let answer = c.answer_words-answer in
+    put_of (map (string_bytes {Z = Global}) c.args.words.now) (known (source.left c.args.src.now) (source.faults c.args.src.now)) (known (source.left answer.new.src) (source.faults answer.new.src))
+    answer.new.page.items
+    (known (out.held c.args.out.now) (out.faults c.args.out.now)) (known (out.held c.deliver.new.out) (out.faults c.deliver.new.out))
+    (known (rep.held c.args.rep.now) (rep.faults c.args.rep.now)) (known (rep.held c.deliver.new.rep) (rep.faults c.deliver.new.rep))
+    c.deliver.result (returns-clause-run g c) put
+
+pub returns-clause-sound : goal.returns-clause-sound
+returns-clause-sound g c put =
+    let source = g.S.Source in
+    sound_of (map (string_bytes {Z = Global}) c.args.words.now) (source.left c.args.src.now) c.answer_words-answer.new.page.items (returns-clause-headline g c put)

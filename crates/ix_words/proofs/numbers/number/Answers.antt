@@ -1,5 +1,5 @@
 use Rattle.std.proofs.Common.{rules, ◌≡◌, true, sym, ◌∙◌, ap}
-use Rattle.ix_words.specs.Words.{is_numeral, number_of}
+use Rattle.ix_words.specs.Words.{is_numeral}
 use Rattle.ix_words.proofs.Numerals.{number_read}
 use Rattle.ix_words.proofs.numbers.number.Goals as goal
 

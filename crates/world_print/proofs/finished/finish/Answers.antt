@@ -8,7 +8,7 @@ use Rattle.exact_mesh.specs.Meshes.{face_of, mesh_volume}
 use Rattle.exact_mesh.specs.Ranges.{AreNear}
 use Rattle.exact_mesh.proofs.Prints.{printed_volume_is}
 use Rattle.world_print.specs.Elements.{page_corners}
-use Rattle.world_print.proofs.Prints.{image_in, ArePrinted, same_length, all_printable, are_near, printed_corners, each_rounded, each_reduced}
+use Rattle.world_print.proofs.Prints.{image_in, ArePrinted, same_length, all_printable, are_near, printed_corners, each_rounded, each_within}
 use Rattle.world_print.proofs.finished.finish.Goals as goal
 
 -- the corners of the mesh were printed in its frame
@@ -42,8 +42,15 @@ returns-clause-rounded c =
     each_rounded c.args.frame c.args.step c.args.mesh.corners.items c.in_ok-printed.printed.items
     (printed_in c.args.frame c.frame.inside.transform c.args.step c.args.mesh.corners.items c.deref.result.now c.in_ok-printed.printed.items c.frame.view_is c.deref.ensures.value c.in_ok-printed.ensures)
 
-pub returns-clause-points : goal.returns-clause-points
-returns-clause-points c = each_reduced c.args.mesh.corners.items c.in_ok-printed.printed.items
+pub returns-clause-frame : goal.returns-clause-frame
+returns-clause-frame c = subst IsFrame c.frame.view_is c.frame.invariant
+
+pub returns-clause-corners : goal.returns-clause-corners
+returns-clause-corners c =
+    let vs = c.in_ok-printed.printed.items in
+    let printed = printed_in c.args.frame c.frame.inside.transform c.args.step c.args.mesh.corners.items c.deref.result.now vs c.frame.view_is c.deref.ensures.value c.in_ok-printed.ensures in
+    each_within c.args.mesh.corners.items vs c.requires.reach
+    (all_printable c.args.frame c.args.step (subst IsFrame c.frame.view_is c.frame.invariant) c.requires.step c.args.mesh.corners.items vs printed c.requires.reach)
 
 pub returns-clause-volume : goal.returns-clause-volume
 returns-clause-volume c =

@@ -1,0 +1,4 @@
+mod Orders
+mod Tallies
+mod Firsts
+mod Counts

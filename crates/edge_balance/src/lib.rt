@@ -1,0 +1,10 @@
+//! Whether each directed edge stands in the faces of a mesh as often as its reverse.
+#![tactic(auto)]
+
+mod balance;
+mod differences;
+mod edges;
+#[cfg(test)]
+mod tests;
+
+pub use balance::unbalanced;

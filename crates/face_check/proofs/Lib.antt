@@ -1,0 +1,3 @@
+mod Ways
+pub mod Members
+pub mod Sounds

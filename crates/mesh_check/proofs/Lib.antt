@@ -1,0 +1,6 @@
+mod Nearest
+mod Found
+mod Pairs
+mod Offsets
+mod Parts
+mod Walked

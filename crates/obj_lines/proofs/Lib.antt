@@ -1,0 +1,11 @@
+pub mod Digits
+pub mod Signed
+pub mod Metres
+pub mod Scans
+pub mod Reduced
+pub mod Forms
+pub mod Shapes
+pub mod Groups
+pub mod RefusalShapes
+pub mod Shorts
+pub mod Lists

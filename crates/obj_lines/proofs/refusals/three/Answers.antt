@@ -1,0 +1,18 @@
+use Rattle.obj_lines.proofs.Shorts.{no_three, no_first_of_three, no_second_of_three, no_third_of_three, three_is}
+use Rattle.obj_lines.proofs.refusals.three.Goals as goal
+
+pub returns-in_err-found : goal.returns-in_err-found
+returns-in_err-found c = rw c.from_residual.ensures (no_three c.args.template.now c.args.text.now c.in_err-found.ensures)
+
+pub returns-in_err-first : goal.returns-in_err-first
+returns-in_err-first c = rw c.from_residual-in_err-first.ensures (no_first_of_three c.args.template.now c.args.text.now c.in_ok-found.found c.in_ok-found.ensures c.in_err-first.ensures)
+
+pub returns-in_err-second : goal.returns-in_err-second
+returns-in_err-second c = rw c.from_residual-in_err-second.ensures (no_second_of_three c.args.template.now c.args.text.now c.in_ok-found.found c.in_ok-found.ensures c.in_err-second.ensures)
+
+pub returns-in_err-third : goal.returns-in_err-third
+returns-in_err-third c = rw c.from_residual-in_err-third.ensures (no_third_of_three c.args.template.now c.args.text.now c.in_ok-found.found c.in_ok-found.ensures c.in_err-third.ensures)
+
+pub returns : goal.returns
+returns c = three_is c.args.template.now c.args.text.now c.in_ok-found.found c.in_ok-found.ensures c.in_ok-first.first c.in_ok-second.second c.in_ok-third.third
+    c.in_ok-first.ensures.0 c.in_ok-second.ensures.0 c.in_ok-third.ensures.0 c.in_ok-first.ensures.1 c.in_ok-second.ensures.1 c.in_ok-third.ensures.1

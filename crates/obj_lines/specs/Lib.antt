@@ -1,0 +1,4 @@
+pub mod PageLines
+pub mod Templates
+pub mod Limits
+pub mod Readings

@@ -1,0 +1,11 @@
+pub mod Begins
+pub mod Faced
+pub mod Grown
+pub mod Indices
+pub mod Leads
+pub mod Pages
+pub mod Reading
+pub mod Shapes
+pub mod Sizes
+pub mod Steps
+pub mod Texts

@@ -1,0 +1,4 @@
+pub mod Rounded
+pub mod Faces
+pub mod Prints
+pub mod Pages

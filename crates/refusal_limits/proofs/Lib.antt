@@ -1,0 +1,9 @@
+pub mod Points
+pub mod Curves
+pub mod Profiles
+pub mod Breps
+pub mod Solids
+pub mod Placements
+pub mod Elements
+pub mod Rounded
+pub mod Refusals
