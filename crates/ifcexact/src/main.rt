@@ -3,6 +3,7 @@
 
 use ix_convert::{Status, convert_run};
 use ix_outside::{StdSink, StdSource};
+use mesh_out::{MeshWriter, OffWriter};
 use std::alloc::AllocError;
 use std::process::ExitCode;
 use std::{env, io};
@@ -26,6 +27,9 @@ fn words(rt: &HostRuntime) -> Result<Vec<String>, AllocError> {
 
 fn run(rt: &HostRuntime) -> Result<Status, AllocError> {
     let words = words(rt)?;
+    let off: Box<dyn MeshWriter> = Box::new(rt.alloc(), OffWriter::new(rt.alloc()))?;
+    let mut writers = Vec::new(rt.alloc());
+    writers.push(off)?;
     let mut page = Vec::new(rt.alloc());
     Ok(convert_run(
         rt.alloc(),
@@ -33,6 +37,7 @@ fn run(rt: &HostRuntime) -> Result<Status, AllocError> {
         &mut StdSource::new(rt.stdin()),
         &mut StdSink::new(rt.stdout()),
         &mut StdSink::new(rt.stderr()),
+        writers,
         &mut page,
     ))
 }

@@ -35,18 +35,30 @@ abbrev pub status_of : Finding → Status
 status_of (finding.Page items) = page_status (count_by is_refused items)
 status_of (finding.Checked verdict) = verdict_status verdict
 status_of (finding.Generated n) = Done
+status_of (finding.Ran n items) = page_status (count_by is_refused items)
 status_of (finding.Refused why) = FileRefused
 status_of finding.ReadFault = ReadFault
 status_of finding.NoMemory = NoMemory
 status_of finding.Usage = Usage
 
--- a page goes with this status
-abbrev pub has_page : Status → Bool
-has_page Done = true
-has_page SomeRefused = true
-has_page FileRefused = false
-has_page ReadFault = false
-has_page WriteFault = false
-has_page NoMemory = false
-has_page Usage = false
-has_page CheckFailed = false
+-- all is done, but for elements that are refused by their own lines
+abbrev pub is_done : Status → Bool
+is_done Done = true
+is_done SomeRefused = true
+is_done FileRefused = false
+is_done ReadFault = false
+is_done WriteFault = false
+is_done NoMemory = false
+is_done Usage = false
+is_done CheckFailed = false
+
+-- the page is put to the output
+abbrev pub is_put : Finding → Bool
+is_put (finding.Page items) = true
+is_put (finding.Checked verdict) = false
+is_put (finding.Generated n) = true
+is_put (finding.Ran n items) = false
+is_put (finding.Refused why) = false
+is_put finding.ReadFault = false
+is_put finding.NoMemory = false
+is_put finding.Usage = false

@@ -37,6 +37,7 @@ fn verdict_answer(alloc: Global, verdict: Verdict) -> Answer
         Ok(text) => Answer {
             status: verdict_status(verdict),
             report: Report::Built(text),
+            puts: false,
         },
         Err(AllocError) => no_memory(),
     }

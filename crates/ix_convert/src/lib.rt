@@ -2,7 +2,9 @@
 #![tactic(auto)]
 
 mod answer;
+mod building;
 mod checking;
+mod choosing;
 mod converting;
 mod deliver;
 mod generating;

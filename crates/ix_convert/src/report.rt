@@ -1,10 +1,13 @@
-ghost use Rattle.std.specs.Prelude.{◌≡◌, ◌++◌, ◌∷◌, [], IfOk, OnOk, codes};
+ghost use Rattle.std.specs.Prelude.{◌≡◌, ◌++◌, ◌∷◌, [], List, IfOk, OnOk, codes};
 ghost use Rattle.std.specs.Fmt.{decimal};
 ghost use Rattle.spec_page.specs.Refusals.{spaced_number};
-ghost use Rattle.spec_run.specs.Findings.{Checked, Generated, Refused};
+ghost use Rattle.spec_run.specs.Findings.{Checked, Generated, Ran, Refused};
+ghost use Rattle.spec_page.specs.Items.{Item};
+ghost use Rattle.ix_page.specs.Counts.{IsTallyOf};
 ghost use Rattle.spec_run.specs.Reports.{fault_text, verdict_text, report_of};
 ghost use Rattle.ix_convert.specs.Answers.{text_of};
 
+use ix_page::{Tally, page_report};
 use spec_check::Verdict;
 use spec_run::FileFault;
 use std::alloc::{AllocError, Global};
@@ -136,5 +139,15 @@ pub fn count_report(alloc: Global, count: u32) -> Result<Vec<u8>, AllocError>
     let mut text = Vec::new(alloc);
     put_worded(&mut text, b"generated ", u64::from(count))?;
     text.push(b'\n')?;
+    Ok(text)
+}
+
+/// The report on a generated file of so many walls, and on its page. The error is want of memory.
+pub fn run_report(alloc: Global, count: u32, tally: &Tally) -> Result<Vec<u8>, AllocError>
+    ensures { IfOk result (λ text. (items : List Item) → IsTallyOf tally.now items → text.items ≡ report_of (Ran count items)) }
+{
+    let mut text = count_report(alloc, count)?;
+    let report = page_report(alloc, tally)?;
+    text.extend_from_slice(&report)?;
     Ok(text)
 }

@@ -1,15 +1,18 @@
 ghost use Rattle.std.specs.Prelude.{◌≡◌, [], map, true, false, IfSome, string_bytes};
 ghost use Rattle.std.specs.Io.KnownBytes.{Appends};
 ghost use Rattle.spec_outside.specs.Ends.{known};
-ghost use Rattle.ix_words.specs.Words.{job_of};
-ghost use Rattle.spec_run.specs.Findings.{IsPutBy, IsSoundBy, reads_source};
-ghost use Rattle.ix_convert.specs.Statuses.{has_page};
+ghost use Rattle.mesh_out.specs.Writers.{known_writer};
+ghost use Rattle.spec_run.specs.Tasks.{task_of, reads_source, puts_page};
+ghost use Rattle.spec_run.specs.Findings.{IsMadeBy, IsSoundBy};
+ghost use Rattle.ix_convert.specs.Statuses.{is_done};
+ghost use Rattle.ix_convert.specs.Deliveries.{page_if};
 ghost use Rattle.ix_convert.specs.Runs.{IsRun};
 
 use crate::answer::answer_words;
 use crate::deliver::deliver;
 use crate::status::Status;
 use ix_outside::{Sink, Source};
+use mesh_out::MeshWriter;
 use std::alloc::Global;
 
 /// Runs the job that the words name, the program's name aside: reads the source where the job
@@ -17,14 +20,18 @@ use std::alloc::Global;
 ///
 /// Under `convert` the source is the STEP text of an IFC4 file, and the page is the OBJ text of its
 /// elements on the grid that the words say, one item for each wanted element in the order of the file.
-/// The answer is the first of these that comes: faulty words; a fault of the source, or
-/// more than 2^27 bytes; a text that is no file, or nests too deep, at its place; a schema that is not
-/// read; a number that is given twice; no project; no unit of length; the page, with its status by
+/// Where the words name another format, the first of the writers of that name takes the meshes of the
+/// converted elements, in the order of the file, behind those that it took before, and the page is its
+/// text; the other writers are dropped unused.
+/// The answer is the first of these that comes: faulty words, or a format without a writer; a fault of
+/// the source, or more than 2^27 bytes; a text that is no file, or nests too deep, at its place; a schema
+/// that is not read; a number that is given twice; no project; no unit of length; the page, with its status by
 /// whether an element is refused.
 ///
 /// Under `check` the source is a page of this project's OBJ text, whoever wrote it. The page stays empty, and the
 /// answer is the first line that is not allowed, or what is found of the page: that it is sound, or what is wrong
-/// first. Under `gen` the source is not read, and the page is a generated file.
+/// first. Under `gen` the source is not read, and the page is a generated file; with `--run` the page is the OBJ text of that
+/// file's elements on a grid of a millimetre, and is not put.
 ///
 /// Want of memory may come before anything is written, and a fault of `out` or of `rep` takes the place of any
 /// other answer.
@@ -34,30 +41,34 @@ pub fn convert_run<S: Source, O: Sink, R: Sink>(
     src: &mut S,
     out: &mut O,
     rep: &mut R,
+    writers: Vec<Box<dyn MeshWriter>>,
     page: &mut Vec<u8>,
 ) -> Status
     requires { page.old.items ≡ [] }
 
     // What is found, why, and how it is written.
-    ensures run { IsRun (map string_bytes words.now)
+    ensures run { IsRun (map string_bytes words.now) (map (λ w. known_writer (called w) (taken w) (text_for w)) writers.items)
         (known (S.left src.old) (S.faults src.old)) (known (S.left src.new) (S.faults src.new))
         page.new.items
         (known (O.held out.old) (O.faults out.old)) (known (O.held out.new) (O.faults out.new))
         (known (R.held rep.old) (R.faults rep.old)) (known (R.held rep.new) (R.faults rep.new))
         result }
 
-    // A page that is put is, under `convert`, the text of one item for each wanted element of the file, with all that is
-    // promised of it; none under `check`; and under `gen` the generated file.
-    ensures headline { has_page result ≡ true → IfSome (job_of (map string_bytes words.now)) (λ job. IsPutBy job (S.left src.old) page.new.items) }
+    // The page is, under `convert`, that of one item for each wanted element of the file, with all that is promised of it, in
+    // OBJ text or as the text of the writer; none under `check`; under `gen` the generated file, or with `--run` the page of it.
+    ensures headline { is_done result ≡ true → IfSome (task_of (map string_bytes words.now) (map (λ w. known_writer (called w) (taken w) (text_for w)) writers.items)) (λ task. IsMadeBy task (S.left src.old) page.new.items) }
 
-    // The page of `convert` keeps the limits of pages, and `check` finds it sound.
-    ensures sound { has_page result ≡ true → IfSome (job_of (map string_bytes words.now)) (λ job. IfSome (S.left src.old) (λ given. IsSoundBy job page.new.items)) }
-    ensures out_whole { has_page result ≡ true → Appends (O.held out.old) (O.held out.new) page.new.items }
+    // A page in OBJ text of a file keeps the limits of pages, and `check` finds it sound.
+    ensures sound { is_done result ≡ true → IfSome (task_of (map string_bytes words.now) (map (λ w. known_writer (called w) (taken w) (text_for w)) writers.items)) (λ task. IsSoundBy task (S.left src.old) page.new.items) }
+
+    // It is put whole, but under `check` and `gen --run`, which put nothing.
+    ensures out_whole { is_done result ≡ true → Appends (O.held out.old) (O.held out.new) (page_if (puts_page (task_of (map string_bytes words.now) (map (λ w. known_writer (called w) (taken w) (text_for w)) writers.items))) page.new.items) }
+    ensures out_untouched { puts_page (task_of (map string_bytes words.now) (map (λ w. known_writer (called w) (taken w) (text_for w)) writers.items)) ≡ false → out.new ≡ out.old }
 
     // Faulty words and `gen` leave the source as it was, and a refusal leaves the output as it was.
-    ensures untouched { reads_source (job_of (map string_bytes words.now)) ≡ false → src.new ≡ src.old }
-    ensures out_kept { has_page result ≡ false → (result ≡ Status.WriteFault → ⊥) → out.new ≡ out.old }
+    ensures untouched { reads_source (task_of (map string_bytes words.now) (map (λ w. known_writer (called w) (taken w) (text_for w)) writers.items)) ≡ false → src.new ≡ src.old }
+    ensures out_kept { is_done result ≡ false → (result ≡ Status.WriteFault → ⊥) → out.new ≡ out.old }
 {
-    let answer = answer_words(alloc, words, src, page);
-    deliver(answer.status, page, answer.report.text(), out, rep)
+    let answer = answer_words(alloc, words, writers, src, page);
+    deliver(&answer, page, out, rep)
 }

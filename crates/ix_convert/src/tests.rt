@@ -1,9 +1,16 @@
 ghost use Rattle.std.specs.declared.option.Option.TheVariants.{None};
+ghost use Rattle.std.specs.Prelude.{[], map, codes};
+ghost use Rattle.world_print.specs.Elements.{mesh_of};
 
 use crate::{Status, convert_run};
-use ix_outside::{Failed, MemSink, MemSource, Source, read_whole};
+use exact_mesh::ExactMesh;
+use ifc_kinds::Kind;
+use ix_outside::{FailSink, FailSource, Failed, MemSink, MemSource, Source, read_whole};
+use ix_place::Frame;
+use mesh_out::{MeshWriter, OffWriter};
 use std::alloc::{AllocError, Global};
 use std::test::Fail;
+use world_print::{ElementMesh, finish};
 
 const HEAD: &[u8] = b"ISO-10303-21;HEADER;FILE_SCHEMA(('IFC4'));ENDSEC;DATA;
 #1=IFCSIUNIT(*,.LENGTHUNIT.,.MILLI.,.METRE.);#2=IFCUNITASSIGNMENT((#1));#3=IFCCARTESIANPOINT((0.,0.,0.));
@@ -44,6 +51,30 @@ struct Left {
     page: Vec<u8>,
 }
 
+/// Runs a job over a source with these writers, and with room for so many bytes of output and of report.
+fn run_with<S: Source>(
+    alloc: Global,
+    texts: &[&str],
+    source: &mut S,
+    writers: Vec<Box<dyn MeshWriter>>,
+    room: usize,
+    report_room: usize,
+) -> Result<Left, AllocError> {
+    let words = words(alloc, texts)?;
+    let mut out = MemSink::new(alloc, room)?;
+    let mut rep = MemSink::new(alloc, report_room)?;
+    let mut page = Vec::new(alloc);
+    let status = convert_run(
+        alloc, &words, source, &mut out, &mut rep, writers, &mut page,
+    );
+    Ok(Left {
+        status,
+        out,
+        rep,
+        page,
+    })
+}
+
 /// Runs a job over a source, with room for so many bytes of output and of report.
 fn run<S: Source>(
     alloc: Global,
@@ -52,17 +83,7 @@ fn run<S: Source>(
     room: usize,
     report_room: usize,
 ) -> Result<Left, AllocError> {
-    let words = words(alloc, texts)?;
-    let mut out = MemSink::new(alloc, room)?;
-    let mut rep = MemSink::new(alloc, report_room)?;
-    let mut page = Vec::new(alloc);
-    let status = convert_run(alloc, &words, source, &mut out, &mut rep, &mut page);
-    Ok(Left {
-        status,
-        out,
-        rep,
-        page,
-    })
+    run_with(alloc, texts, source, Vec::new(alloc), room, report_room)
 }
 
 /// Runs `convert` over a file of these parts, with room for all texts.
@@ -191,14 +212,23 @@ fn refuses_files_in_order(rt: HostRuntime) -> Result<(), Fail> {
 
 #[test]
 fn reads_nothing_for_faulty_words(rt: HostRuntime) -> Result<(), Fail> {
+    let usage =
+        b"usage: ifcexact convert [--grid=N] [--only=N] [--format=NAME] / check / gen --count=N [--run]\n".as_slice();
     let parts: [&[u8]; 4] = [HEAD, PROJECT, WALL, END];
     let mut source = MemSource::new(file(rt.alloc(), &parts)?);
     let left = run(rt.alloc(), &["convert", "--grid=0"], &mut source, 4000, 200)?;
     assert_eq!(rt; left.status.code(), 6);
-    assert!(rt;
-        left.rep.held()
-            == b"usage: ifcexact convert [--grid=N] [--only=N] [--format=NAME] / check / gen --count=N\n".as_slice()
-    );
+    assert!(rt; left.rep.held() == usage);
+    // No writer is handed in.
+    let left = run(
+        rt.alloc(),
+        &["convert", "--format=off"],
+        &mut source,
+        4000,
+        200,
+    )?;
+    assert_eq!(rt; left.status.code(), 6);
+    assert!(rt; left.rep.held() == usage);
     let all = read_whole(rt.alloc(), &mut source, 4000)?;
     assert!(rt; all.as_slice() == file(rt.alloc(), &parts)?.as_slice());
     Ok(())
@@ -207,27 +237,40 @@ fn reads_nothing_for_faulty_words(rt: HostRuntime) -> Result<(), Fail> {
 #[test]
 fn answers_faults_of_the_outside(rt: HostRuntime) -> Result<(), Fail> {
     let wall = file(rt.alloc(), &[HEAD, PROJECT, WALL, END])?;
+    let convert = words(rt.alloc(), &["convert"])?;
     let mut source = MemSource::new(wall.clone()?);
-    let left = run(rt.alloc(), &["convert"], &mut source, 64, 200)?;
-    assert_eq!(rt; left.status.code(), 4);
-    assert!(rt; left.page.as_slice().starts_with(left.out.held()));
-    assert_eq!(rt; left.out.held().len(), 64);
-    assert!(rt; left.rep.held().is_empty());
-
-    let left = run(rt.alloc(), &["convert"], &mut MemSource::new(wall), 4000, 9)?;
-    assert_eq!(rt; left.status.code(), 4);
-    assert!(rt; left.out.held() == left.page.as_slice());
-    assert!(rt; left.rep.held() == b"elements ".as_slice());
+    let mut out = FailSink::new(rt.alloc(), 4000, 64, vec![in rt.alloc(); 3u64]?)?;
+    let mut rep = MemSink::new(rt.alloc(), 200)?;
+    let mut page = Vec::new(rt.alloc());
+    let status = convert_run(
+        rt.alloc(),
+        &convert,
+        &mut source,
+        &mut out,
+        &mut rep,
+        Vec::new(rt.alloc()),
+        &mut page,
+    );
+    assert_eq!(rt; status.code(), 4);
+    assert!(rt; out.held() == &page.as_slice()[..128]);
+    assert!(rt; rep.held().is_empty());
 
     let left = run(
         rt.alloc(),
         &["convert"],
-        &mut Broken { faults: 0 },
+        &mut MemSource::new(wall.clone()?),
         4000,
-        200,
+        9,
     )?;
+    assert_eq!(rt; left.status.code(), 4);
+    assert!(rt; left.out.held() == left.page.as_slice());
+    assert!(rt; left.rep.held() == b"elements ".as_slice());
+
+    let mut source = FailSource::new(wall, 64, vec![in rt.alloc(); 2u64]?);
+    let left = run(rt.alloc(), &["convert"], &mut source, 4000, 200)?;
     assert_eq!(rt; left.status.code(), 3);
     assert!(rt; left.rep.held() == b"read fault\n".as_slice());
+    assert!(rt; left.out.held().is_empty());
     Ok(())
 }
 
@@ -247,11 +290,94 @@ fn checks_its_own_page(rt: HostRuntime) -> Result<(), Fail> {
 
 #[test]
 fn generates_without_reading(rt: HostRuntime) -> Result<(), Fail> {
-    let words = ["gen", "--count=2"];
+    let words = ["gen", "--count=1"];
     let left = run(rt.alloc(), &words, &mut Broken { faults: 0 }, 40_000, 200)?;
     assert_eq!(rt; left.status, Status::Done);
-    assert!(rt; left.rep.held() == b"generated 2\n".as_slice());
+    assert!(rt; left.rep.held() == b"generated 1\n".as_slice());
     assert!(rt; left.out.held() == left.page.as_slice());
-    assert!(rt; has(&left.page, b"#127=IFCWALL"));
+    assert!(rt; has(&left.page, b"#107=IFCWALL"));
+
+    let words = ["gen", "--run", "--count=1"];
+    let left = run(rt.alloc(), &words, &mut Broken { faults: 0 }, 40_000, 200)?;
+    assert_eq!(rt; left.status, Status::Done);
+    assert!(rt;
+        left.rep.held().starts_with(b"generated 1\nelements 2 converted 2 skipped 0 refused 0 ")
+    );
+    assert!(rt; left.out.held().is_empty());
+    assert!(rt; has(&left.page, b"\n#vol6 16848000000000000000\n"));
+    Ok(())
+}
+
+/// A writer that has no text for any meshes.
+#[derive(Drop)]
+struct Quiet {
+    alloc: Global,
+    taken: Vec<ElementMesh>,
+}
+
+impl MeshWriter for Quiet {
+    ghost called = { λ _. codes "quiet" };
+
+    ghost taken = { λ w. map mesh_of w.taken.items };
+
+    ghost text_for = { λ _ _. [] };
+
+    fn name(&self) -> &str {
+        "quiet"
+    }
+
+    fn take(&mut self, mesh: &ElementMesh) -> Result<(), AllocError> {
+        let copy = mesh.copy(self.alloc)?;
+        self.taken.push(copy)?;
+        Ok(())
+    }
+
+    fn text(&self) -> &[u8] {
+        b""
+    }
+}
+
+/// A mesh without corners of the element of a number.
+fn empty_mesh(alloc: Global, number: u64) -> Result<ElementMesh, AllocError> {
+    let mesh = ExactMesh {
+        corners: Vec::new(alloc),
+        faces: Vec::new(alloc),
+    };
+    finish(alloc, number, Kind::Wall, Frame::identity(), 1000, mesh)
+}
+
+#[test]
+fn writes_by_the_first_writer_of_a_name(rt: HostRuntime) -> Result<(), Fail> {
+    let alloc = rt.alloc();
+    let mut first = OffWriter::new(alloc);
+    first.take(&empty_mesh(alloc, 7)?)?;
+    let mut writers: Vec<Box<dyn MeshWriter>> = Vec::new(alloc);
+    let taken = Vec::new(alloc);
+    writers.push(Box::new(alloc, Quiet { alloc, taken })?)?;
+    writers.push(Box::new(alloc, first)?)?;
+    writers.push(Box::new(alloc, OffWriter::new(alloc))?)?;
+    let more: &[u8] = b"#14=IFCSLAB('3',$,$,$,$,#7,$,$,$);#15=IFCBEAM('4',$,$,$,$,#7,#99,$,$);";
+    let mut source = MemSource::new(file(alloc, &[HEAD, PROJECT, WALL, more, END])?);
+    let left = run_with(
+        alloc,
+        &["convert", "--format=off"],
+        &mut source,
+        writers,
+        4000,
+        400,
+    )?;
+    assert_eq!(rt; left.status, Status::SomeRefused);
+    assert!(rt;
+        left.page
+            .as_slice()
+            .starts_with(b"# 7\nOFF\n0 0 0\n# 13\nOFF\n8 ")
+    );
+    assert!(rt; !has(&left.page, b"# 15"));
+    assert!(rt;
+        left.rep
+            .held()
+            .starts_with(b"elements 3 converted 1 skipped 1 refused 1 corners 8 ")
+    );
+    assert!(rt; left.out.held() == left.page.as_slice());
     Ok(())
 }

@@ -1,5 +1,5 @@
 -- Lists of items that grow by one.
-use Rattle.std.proofs.Common.{◌≡◌, ℕ, ◌+◌, ◌<◌, Vec, Result, Err, IfOk, List, [], ◌∷◌, ◌++◌, length, get_or, take, Bool, refl, sym, ap, ◌∙◌, append_assoc, append-nil, arith, ℤ, min, Ok, length-append, zero-add, add_assoc, add-zero, subst}
+use Rattle.std.proofs.Common.{◌≡◌, ℕ, ◌+◌, ◌<◌, Vec, Result, Err, IfOk, OnOk, List, [], ◌∷◌, ◌++◌, length, get_or, take, Bool, refl, sym, ap, ◌∙◌, append_assoc, append-nil, arith, ℤ, min, Ok, length-append, zero-add, add_assoc, add-zero, subst}
 use Rattle.std.specs.Prelude.{sum_by, count_by, if◌then◌else◌, true, nat_eq, All}
 use Rattle.std.specs.List.{filter}
 use Rattle.std.proofs.lemmas.List.Elements.{All-weaker, All-filter}
@@ -14,13 +14,20 @@ use Rattle.spec_place.specs.declared.transform.Transform.{Transform}
 use Rattle.spec_solid.specs.Solids.{Body}
 use Rattle.spec_refusal.specs.Reads.{Read}
 use Rattle.spec_page.specs.Element.{Element}
-use Rattle.spec_page.specs.Items.{Item, Printed, is_printed, is_skipped, is_refused, corner_count, face_count}
+use Rattle.spec_page.specs.Items.{Item, Printed, Skipped, Refused, is_printed, is_skipped, is_refused, corner_count, face_count}
 use Rattle.spec_page.specs.Page.{item_lines, items_lines, if_refused, kinds_text, sizes_text, counts_line}
 use Rattle.spec_outcome.specs.Outcomes.{IsItemOf, AreItemsOf, IsElementOf, StandsFor, rounded_outcome}
 use Rattle.std.proofs.lemmas.List.{take_more}
 use Rattle.std.proofs.lemmas.List.Sums.{sum_by-append, sum_by-cons}
 use Rattle.std.proofs.lemmas.Grind.{flat_map-append}
-use Rattle.ix_page.specs.Counts.{IsTallyOf, Counts, AddsElement, HasElements, IsElement}
+use Rattle.spec_entity.specs.Reads.{has_kind}
+use Rattle.ifc_kinds.specs.declared.kind.Kind.{Kind}
+use Rattle.world_print.specs.Elements.{Mesh}
+use Rattle.spec_meshes.specs.Meshes.{AreMeshesOf}
+use Rattle.ix_page.specs.declared.element.Made.{Made}
+use Rattle.ix_page.specs.declared.element.Made.TheVariants as made
+use Rattle.ix_page.specs.Made.{item_of, meshes_of, IsMeshAs}
+use Rattle.ix_page.specs.Counts.{IsTallyOf, Counts, AddsElement, HasElements, TakesElement, HasTaken, IsElement}
 use Rattle.ix_page.specs.declared.tally.Tally.{Tally}
 
 -- as many corners of a page as there are exact and printed ones
@@ -108,3 +115,59 @@ pub only_elements : {E A : Type 0} (section : DataSection) (ns : List ℕ) (only
 only_elements section ns only (Ok kept) e kinds =
     subst (All (IsElement section)) (sym e) (All-filter (λ n. nat_eq n only) (IsElement section) ns (are_elements section ns kinds))
 only_elements section ns only (Err error) e kinds = tt
+
+-- Meshes that a writer takes.
+
+-- the meshes of one item more
+pub meshes_more : (file : File) (is : List Item) (i : Item) (ms ns : List Mesh) → AreMeshesOf file is ms → AreMeshesOf file (i ∷ []) ns
+    → AreMeshesOf file (is ++ i ∷ []) (ms ++ ns)
+meshes_more file [] i [] ns h k = k
+meshes_more file [] i (m ∷ ms) ns h k = absurd h
+meshes_more file (Printed e ∷ is) i [] ns h k = absurd h
+meshes_more file (Printed e ∷ is) i (m ∷ ms) ns h k = (h.0, meshes_more file is i ms ns h.1 k)
+meshes_more file (Skipped n ∷ is) i ms ns h k = meshes_more file is i ms ns h k
+meshes_more file (Refused n why ∷ is) i ms ns h k = meshes_more file is i ms ns h k
+
+-- one element more
+pub taken_more : (file : File) (ns : List ℕ) (k d : ℕ) (had taken taken' : List Mesh) (tally tally' : Tally) → k < length ns
+    → HasTaken file (take k ns) had taken tally → TakesElement file (get_or ns k d) taken taken' tally tally'
+    → HasTaken file (take (k + 1) ns) had taken' tally'
+taken_more file ns k d had taken taken' tally tally' lt old one = record {
+  items = old.items ++ one.item ∷ [];
+  meshes = old.meshes ++ one.meshes;
+  outcomes =
+      subst (λ (l : List ℕ). AreItemsOf file l (old.items ++ one.item ∷ [])) (sym (take_more ns k d lt))
+      (items_more file (take k ns) (get_or ns k d) old.items one.item old.outcomes one.outcome);
+  converted = meshes_more file old.items one.item old.meshes one.meshes old.converted one.converted;
+  took = one.took ∙ ap (λ (l : List Mesh). l ++ one.meshes) old.took ∙ append_assoc had old.meshes one.meshes;
+  counts = one.counted old.items old.counts;
+}
+
+-- the mesh of an element that was converted
+pub mesh_marked : (file : File) (n : ℕ) (kind : Kind) (made : Made) → has_kind file.section n kind ≡ true → IsMeshAs n kind file.grid made
+    → AreMeshesOf file (item_of n made ∷ []) (meshes_of made)
+mesh_marked file n kind made.Nothing h k = tt
+mesh_marked file n kind (made.Refusal why) h k = tt
+mesh_marked file n kind (made.Mesh mesh) h k = (
+  record {
+    element = refl;
+    kind = (λ i. has_kind file.section (k.number i) (k.kind_kept i)) ∙ h;
+    step = k.step_kept;
+  },
+  tt,
+)
+
+-- one element that was made, given to a writer and counted
+pub takes_one : {E : Type 0} (file : File) (n : ℕ) (made : Made) (taken taken' : List Mesh) (tally tally' : Tally) (r : Result (Unit {0}) E)
+    → IsItemOf file n (item_of n made) → AreMeshesOf file (item_of n made ∷ []) (meshes_of made) → taken' ≡ taken ++ meshes_of made
+    → OnOk r (Counts tally (item_of n made) tally') → OnOk r (tally'.elements ≡ tally.elements + 1) → OnOk r (TakesElement file n taken taken' tally tally')
+takes_one file n made taken taken' tally tally' (Ok u) item mesh took counts one = record {
+  item = item_of n made;
+  meshes = meshes_of made;
+  outcome = item;
+  converted = mesh;
+  took = took;
+  counted = counts;
+  one = one;
+}
+takes_one file n made taken taken' tally tally' (Err e) item mesh took counts one = tt

@@ -7,6 +7,8 @@ use Rattle.spec_geometry.specs.Files.{File}
 use Rattle.spec_page.specs.Items.{Item, is_printed, is_skipped, is_refused, corner_count, face_count}
 use Rattle.spec_page.specs.Page.{item_lines, items_lines, if_refused}
 use Rattle.spec_outcome.specs.Outcomes.{IsItemOf, AreItemsOf}
+use Rattle.spec_meshes.specs.Meshes.{AreMeshesOf}
+use Rattle.world_print.specs.Elements.{Mesh}
 use Rattle.ix_page.specs.declared.tally.Tally.{Tally}
 
 -- the counts are those of these items, and the refused lines theirs
@@ -41,4 +43,23 @@ pub record HasElements (file : File) (numbers : List ℕ) (before page : List �
   pub items : List Item
   pub outcomes : AreItemsOf file numbers items
   pub lines : page ≡ before ++ items_lines 0 items
+  pub counts : IsTallyOf tally items
+
+-- a writer took the mesh of one element more, if it is converted, and the element is counted
+pub record TakesElement (file : File) (n : ℕ) (taken taken' : List Mesh) (tally tally' : Tally) : Type 0 where
+  pub item : Item
+  pub meshes : List Mesh
+  pub outcome : IsItemOf file n item
+  pub converted : AreMeshesOf file (item ∷ []) meshes
+  pub took : taken' ≡ taken ++ meshes
+  pub counted : Counts tally item tally'
+  pub one : tally'.elements ≡ tally.elements + 1
+
+-- a writer took the meshes of those of these elements, in order, that are converted, and the elements are counted
+pub record HasTaken (file : File) (numbers : List ℕ) (taken taken' : List Mesh) (tally : Tally) : Type 0 where
+  pub items : List Item
+  pub meshes : List Mesh
+  pub outcomes : AreItemsOf file numbers items
+  pub converted : AreMeshesOf file items meshes
+  pub took : taken' ≡ taken ++ meshes
   pub counts : IsTallyOf tally items

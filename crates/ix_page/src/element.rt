@@ -1,4 +1,4 @@
-ghost use Rattle.std.specs.Prelude.{◌≡◌, true, ◌≤◌, ◌<◌, ◌^◌, ◌++◌, IfOk, OnOk};
+ghost use Rattle.std.specs.Prelude.{◌≡◌, true, ◌≤◌, ◌<◌, ◌^◌, List, [], ◌∷◌, ◌++◌, IfOk, OnOk};
 ghost use Rattle.spec_table.specs.Sections.{IsSimple};
 ghost use Rattle.spec_entity.specs.Elements.{has_element_kind};
 ghost use Rattle.spec_shape.specs.Shapes.{element_count};
@@ -9,7 +9,9 @@ ghost use Rattle.solid_expr.specs.Views.{element_of};
 ghost use Rattle.ifc_numbers.specs.Measures.{file_of};
 ghost use Rattle.ifc_elem.specs.Voiding.{IsIndexOf};
 ghost use Rattle.world_print.specs.Ranges.{IsStep};
-ghost use Rattle.ix_page.specs.Made.{item_of};
+ghost use Rattle.world_print.specs.Elements.{Mesh};
+ghost use Rattle.spec_meshes.specs.Meshes.{AreMeshesOf};
+ghost use Rattle.ix_page.specs.Made.{item_of, meshes_of, IsMeshAs};
 
 use element_mesh::element_mesh;
 use entity_reader::element_kind;
@@ -17,6 +19,7 @@ use grid_round::{RoundFault, round_solid};
 use ifc_elem::{Openings, element_body};
 use ifc_kinds::Kind;
 use ifc_numbers::{GeomIn, ItemFault};
+use mesh_out::MeshWriter;
 use obj_text::{write_element, write_refused, write_skipped};
 use solid_expr::ElementSolid;
 use spec_refusal::Refusal;
@@ -40,9 +43,10 @@ pub enum Made {
 fn made_of(alloc: Global, element: &ElementSolid, kind: Kind, step: u32) -> Result<Made, AllocError>
     requires step { IsStep step }
     requires few { element_count (element_of element.now) ≤ 4096 }
-    ensures { IfOk result (λ made. StandsFor step element.now.number
+    ensures item { IfOk result (λ made. StandsFor step element.now.number
         (rounded_outcome element.now.frame (round_element step (element_of element.now)))
         (item_of element.now.number made)) }
+    ensures mesh { IfOk result (IsMeshAs element.now.number kind step) }
 {
     match round_solid(alloc, element, step) {
         Ok(solid) => {
@@ -65,13 +69,26 @@ pub fn made_element(
     requires simple { IsSimple table.now number }
     requires kind { has_element_kind table.now number ≡ true }
     requires openings { IsIndexOf openings.now table.now }
-    ensures { IfOk result (λ made. IsItemOf (file_of table.now g.now) number (item_of number made)) }
+    ensures item { IfOk result (λ made. IsItemOf (file_of table.now g.now) number (item_of number made)) }
+    ensures mesh { IfOk result (λ made. AreMeshesOf (file_of table.now g.now) (item_of number made ∷ []) (meshes_of made)) }
 {
     match element_body(alloc, table, g, openings, number) {
         Ok(Some(element)) => made_of(alloc, &element, element_kind(table, number), g.step),
         Ok(None) => Ok(Made::Nothing),
         Err(ItemFault::Refused(refusal)) => Ok(Made::Refusal(refusal)),
         Err(ItemFault::NoMemory) => Err(AllocError),
+    }
+}
+
+/// Gives a writer the mesh of an element, where it was converted.
+pub fn take_mesh(writer: &mut dyn MeshWriter, made: &Made) -> Result<(), AllocError>
+    ensures taken { OnOk result (taken writer.new ≡ taken writer.old ++ meshes_of made.now) }
+    ensures texts { (list : List Mesh) → text_for writer.new list ≡ text_for writer.old list }
+{
+    match made {
+        Made::Mesh(mesh) => writer.take(mesh),
+        Made::Nothing => Ok(()),
+        Made::Refusal(_) => Ok(()),
     }
 }
 

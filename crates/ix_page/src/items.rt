@@ -3,16 +3,18 @@ ghost use Rattle.spec_table.specs.Sections.{IsSimple};
 ghost use Rattle.spec_entity.specs.Elements.{has_element_kind, elements};
 ghost use Rattle.spec_page.specs.Items.{Item};
 ghost use Rattle.spec_page.specs.Page.{page_text};
+ghost use Rattle.world_print.specs.Elements.{Mesh};
 ghost use Rattle.spec_outcome.specs.Outcomes.{AreItemsOf, wanted_of};
 ghost use Rattle.ifc_numbers.specs.Measures.{file_of};
 ghost use Rattle.ifc_elem.specs.Voiding.{IsIndexOf};
-ghost use Rattle.ix_page.specs.Counts.{IsTallyOf, AddsElement, HasElements, IsElement};
+ghost use Rattle.ix_page.specs.Counts.{IsTallyOf, AddsElement, HasElements, TakesElement, HasTaken, IsElement};
 
-use crate::element::{made_element, put_item};
+use crate::element::{made_element, put_item, take_mesh};
 use crate::tally::Tally;
 use entity_reader::elements;
 use ifc_elem::Openings;
 use ifc_numbers::GeomIn;
+use mesh_out::MeshWriter;
 use obj_text::{write_end, write_head};
 use std::alloc::{AllocError, Global};
 use step_table::Table;
@@ -53,6 +55,48 @@ fn put_elements(
     let mut tally = Tally::new(alloc);
     for number in numbers {
         put_element(alloc, table, g, openings, *number, page, &mut tally)?;
+    }
+    Ok(tally)
+}
+
+/// Gives a writer the mesh of the element of a number, where it is converted, and counts the element.
+fn take_element(
+    alloc: Global,
+    table: &Table<'_>,
+    g: &GeomIn,
+    openings: &Openings,
+    number: u64,
+    writer: &mut dyn MeshWriter,
+    tally: &mut Tally,
+) -> Result<(), AllocError>
+    requires element { IsElement table.now number }
+    requires openings { IsIndexOf openings.now table.now }
+    requires room { tally.old.elements < 2 ^ 60 }
+    ensures taken { OnOk result (TakesElement (file_of table.now g.now) number (taken writer.old) (taken writer.new) tally.old tally.new) }
+    ensures texts { (list : List Mesh) → text_for writer.new list ≡ text_for writer.old list }
+{
+    let made = made_element(alloc, table, g, openings, number)?;
+    take_mesh(writer, &made)?;
+    tally.count(number, &made)
+}
+
+/// Gives a writer the meshes of those elements, in order, that are converted, and counts the elements.
+fn take_elements(
+    alloc: Global,
+    table: &Table<'_>,
+    g: &GeomIn,
+    openings: &Openings,
+    numbers: &[u64],
+    writer: &mut dyn MeshWriter,
+) -> Result<Tally, AllocError>
+    requires elements { All (IsElement table.now) numbers.now }
+    requires openings { IsIndexOf openings.now table.now }
+    ensures taken { IfOk result (HasTaken (file_of table.now g.now) numbers.now (taken writer.old) (taken writer.new)) }
+    ensures texts { (list : List Mesh) → text_for writer.new list ≡ text_for writer.old list }
+{
+    let mut tally = Tally::new(alloc);
+    for number in numbers {
+        take_element(alloc, table, g, openings, *number, writer, &mut tally)?;
     }
     Ok(tally)
 }
@@ -106,4 +150,26 @@ pub fn write_page(
     let tally = put_elements(alloc, table, g, &openings, &numbers, page)?;
     write_end(page)?;
     Ok(tally)
+}
+
+/// Gives a writer the meshes of the converted elements of a file, in the order of the file, on the grid of a step; or the mesh
+/// of the one element of a number. Each element is made and given back before the next is read. Answers what it counts: all
+/// elements, those among them that are refused or have no body, and the corners and faces of the meshes.
+///
+/// # Errors
+///
+/// Want of memory; then the writer may have taken some of the meshes.
+pub fn take_meshes(
+    alloc: Global,
+    table: &Table<'_>,
+    g: &GeomIn,
+    only: Option<u64>,
+    writer: &mut dyn MeshWriter,
+) -> Result<Tally, AllocError>
+    ensures taken { IfOk result (HasTaken (file_of table.now g.now) (wanted_of only (elements table.now)) (taken writer.old) (taken writer.new)) }
+    ensures texts { (list : List Mesh) → text_for writer.new list ≡ text_for writer.old list }
+{
+    let numbers = wanted(alloc, table, only)?;
+    let openings = Openings::of(alloc, table)?;
+    take_elements(alloc, table, g, &openings, &numbers, writer)
 }

@@ -1,4 +1,5 @@
-//! The items of a page: what becomes of each element of a file, printed in the order of the file.
+//! The items of a page: what becomes of each element of a file, printed in the order of the file, or its meshes given to a
+//! writer.
 #![tactic(auto)]
 
 mod counts;
@@ -7,6 +8,6 @@ mod items;
 mod report;
 mod tally;
 
-pub use items::write_page;
+pub use items::{take_meshes, write_page};
 pub use report::page_report;
 pub use tally::Tally;

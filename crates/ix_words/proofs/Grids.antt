@@ -1,5 +1,5 @@
 -- The numbers of a job are in their ranges.
-use Rattle.std.proofs.Common.{◌≡◌, ℕ, Bool, true, false, List, [], ◌∷◌, Option, Some, None, IfSome, refl, arith}
+use Rattle.std.proofs.Common.{◌≡◌, ℕ, ◌+◌, Bool, true, false, List, [], ◌∷◌, Option, Some, None, IfSome, refl, arith}
 use Rattle.std.specs.Prelude.{nat_le, codes, if◌then◌else◌}
 use Rattle.std.specs.Option.{option_map, option_and_then, unwrap_or}
 use Rattle.std.specs.Str.{bytes_eq}
@@ -7,7 +7,7 @@ use Rattle.std.proofs.lemmas.Bool.{leb-true}
 use Rattle.ix_words.specs.declared.options.Options.{Options}
 use Rattle.ix_words.specs.declared.job.Job.{Job}
 use Rattle.ix_words.specs.declared.job.Job.TheVariants.{Gen}
-use Rattle.ix_words.specs.Words.{number_of, is_grid, grid_of, behind, no_options, once, with_option, with_word, with_words, convert_with, convert_of, check_of, is_count, count_of, gen_of, job_of, IsGrid, IsCount, IsInRange}
+use Rattle.ix_words.specs.Words.{number_of, is_grid, grid_of, behind, no_options, once, format_at, with_further, with_option, with_word, with_words, convert_with, convert_of, check_of, is_count, count_of, count_in, gen_with, gen_of, job_of, IsGrid, IsCount, IsInRange}
 use Rattle.ix_words.proofs.Numerals.{and_left, and_right}
 
 -- the grid is in its range, if there is one
@@ -25,30 +25,39 @@ read : (o : Option ℕ) → IfSome (option_and_then (λ grid. if is_grid grid th
 read None = tt
 read (Some n) = tested n (is_grid n) refl
 
-grid_set : (options : Options) (earlier value : Option ℕ) → IfSome value IsGrid → IfSome (option_map (λ g. record { grid = Some g; only = options.only }) (once earlier value)) IsFine
+grid_set : (options : Options) (earlier value : Option ℕ) → IfSome value IsGrid → IfSome (option_map (λ g. record { grid = Some g; only = options.only; format = options.format }) (once earlier value)) IsFine
 grid_set options (Some e) value h = tt
 grid_set options None None h = tt
 grid_set options None (Some g) h = h
 
-only_set : (options : Options) (earlier value : Option ℕ) → IsFine options → IfSome (option_map (λ n. record { grid = options.grid; only = Some n }) (once earlier value)) IsFine
+only_set : (options : Options) (earlier value : Option ℕ) → IsFine options → IfSome (option_map (λ n. record { grid = options.grid; only = Some n; format = options.format }) (once earlier value)) IsFine
 only_set options (Some e) value h = tt
 only_set options None None h = tt
 only_set options None (Some n) h = h
 
-option_set : (options : Options) (grid only : Option (List ℕ)) → IsFine options → IfSome (with_option options grid only) IsFine
-option_set options (Some text) only h = grid_set options options.grid (grid_of text) (read (number_of text))
-option_set options None (Some text) h = only_set options options.only (number_of text) h
-option_set options None None h = tt
+format_set : (options : Options) (earlier value : Option ℕ) → IsFine options → IfSome (option_map (λ f. record { grid = options.grid; only = options.only; format = Some f }) (once earlier value)) IsFine
+format_set options (Some e) value h = tt
+format_set options None None h = tt
+format_set options None (Some f) h = h
+
+further_set : (options : Options) (place : ℕ) (only format : Option (List ℕ)) → IsFine options → IfSome (with_further options place only format) IsFine
+further_set options place (Some text) format h = only_set options options.only (number_of text) h
+further_set options place None (Some name) h = format_set options options.format (format_at place name) h
+further_set options place None None h = tt
+
+option_set : (options : Options) (place : ℕ) (grid only format : Option (List ℕ)) → IsFine options → IfSome (with_option options place grid only format) IsFine
+option_set options place (Some text) only format h = grid_set options options.grid (grid_of text) (read (number_of text))
+option_set options place None only format h = further_set options place only format h
 
 then_fine : (f : Options → Option Options) (o : Option Options) → ((options : Options) → IsFine options → IfSome (f options) IsFine) → IfSome o IsFine → IfSome (option_and_then f o) IsFine
 then_fine f None g h = tt
 then_fine f (Some options) g h = g options h
 
-words_set : (words : List (List ℕ)) (options : Options) → IsFine options → IfSome (with_words options words) IsFine
-words_set [] options h = h
-words_set (word ∷ words) options h =
-    then_fine (λ read. with_words read words) (with_word options word) (words_set words)
-    (option_set options (behind (codes "--grid=") word) (behind (codes "--only=") word) h)
+words_set : (words : List (List ℕ)) (place : ℕ) (options : Options) → IsFine options → IfSome (with_words options place words) IsFine
+words_set [] place options h = h
+words_set (word ∷ words) place options h =
+    then_fine (λ read. with_words read (place + 1) words) (with_word options place word) (words_set words (place + 1))
+    (option_set options place (behind (codes "--grid=") word) (behind (codes "--only=") word) (behind (codes "--format=") word) h)
 
 told : (o : Option ℕ) → IfSome o IsGrid → IsGrid (unwrap_or o 1000)
 told None h = record { least = omega arith; most = omega arith }
@@ -59,7 +68,7 @@ job_fine None h = tt
 job_fine (Some options) h = told options.grid h
 
 convert_in_range : (words : List (List ℕ)) → IfSome (convert_of words) IsInRange
-convert_in_range words = job_fine (with_words no_options words) (words_set words no_options tt)
+convert_in_range words = job_fine (with_words no_options 2 words) (words_set words 2 no_options tt)
 
 check_in_range : (words : List (List ℕ)) → IfSome (check_of words) IsInRange
 check_in_range [] = tt
@@ -76,22 +85,29 @@ count_read : (o : Option ℕ) → IfSome (option_and_then (λ n. if is_count n t
 count_read None = tt
 count_read (Some n) = counted n (is_count n) refl
 
-count_in_range : (o : Option ℕ) → IfSome o IsCount → IfSome (option_map Gen o) IsInRange
-count_in_range None h = tt
-count_in_range (Some n) h = h
+count_in_range : (run : Bool) (o : Option ℕ) → IfSome o IsCount → IfSome (option_map (λ n. Gen n run) o) IsInRange
+count_in_range run None h = tt
+count_in_range run (Some n) h = h
 
-found_in_range : (o : Option (List ℕ)) → IfSome (option_map Gen (option_and_then count_of o)) IsInRange
-found_in_range None = tt
-found_in_range (Some text) = count_in_range (count_of text) (count_read (number_of text))
+counted_behind : (o : Option (List ℕ)) → IfSome (option_and_then count_of o) IsCount
+counted_behind None = tt
+counted_behind (Some text) = count_read (number_of text)
 
-gen_in_range : (words : List (List ℕ)) → IfSome (gen_of words) IsInRange
-gen_in_range [] = tt
-gen_in_range (word ∷ []) = found_in_range (behind (codes "--count=") word)
-gen_in_range (word ∷ other ∷ words) = tt
+with_in_range : (run : Bool) (word : List ℕ) → IfSome (gen_with run word) IsInRange
+with_in_range run word = count_in_range run (count_in word) (counted_behind (behind (codes "--count=") word))
 
 chosen : (b : Bool) (o p : Option Job) → IfSome o IsInRange → IfSome p IsInRange → IfSome (if b then o else p) IsInRange
 chosen true o p h k = h
 chosen false o p h k = k
+
+gen_in_range : (words : List (List ℕ)) → IfSome (gen_of words) IsInRange
+gen_in_range [] = tt
+gen_in_range (word ∷ []) = with_in_range false word
+gen_in_range (word ∷ other ∷ []) =
+    let behind_it = if bytes_eq other (codes "--run") then gen_with true word else None in
+    chosen (bytes_eq word (codes "--run")) (gen_with true other) behind_it (with_in_range true other)
+    (chosen (bytes_eq other (codes "--run")) (gen_with true word) None (with_in_range true word) tt)
+gen_in_range (word ∷ other ∷ third ∷ words) = tt
 
 pub job_in_range : (words : List (List ℕ)) → IfSome (job_of words) IsInRange
 job_in_range [] = tt

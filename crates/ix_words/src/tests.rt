@@ -15,13 +15,21 @@ fn reads_words(rt: HostRuntime) -> Result<(), Fail> {
     let plain = Job::Convert {
         grid: 1000,
         only: None,
+        format: 0,
     };
     assert!(rt; job(rt.alloc(), &["convert"])? == Some(plain));
+    assert!(rt; job(rt.alloc(), &["convert", "--format=obj"])? == Some(plain));
     let both = Job::Convert {
         grid: 10_000,
         only: Some(17),
+        format: 3,
     };
-    assert!(rt; job(rt.alloc(), &["convert", "--only=17", "--grid=10000"])? == Some(both));
+    assert!(rt;
+        job(
+            rt.alloc(),
+            &["convert", "--only=17", "--format=xyz", "--grid=10000"]
+        )? == Some(both)
+    );
     for word in [
         "--grid=0",
         "--grid=01",
@@ -31,12 +39,14 @@ fn reads_words(rt: HostRuntime) -> Result<(), Fail> {
         "--grid=1 ",
         "--Grid=1",
         "--only=1234567890123456789",
-        "--format=xyz",
+        "--format=",
+        "--format",
         "convert",
     ] {
         assert!(rt; job(rt.alloc(), &["convert", word])?.is_none(), "{word}");
     }
     assert!(rt; job(rt.alloc(), &["convert", "--grid=1", "--grid=1"])?.is_none());
+    assert!(rt; job(rt.alloc(), &["convert", "--format=obj", "--format=off"])?.is_none());
     assert!(rt; job(rt.alloc(), &["--grid=1", "convert"])?.is_none());
     assert!(rt; job(rt.alloc(), &[])?.is_none());
     Ok(())
@@ -46,11 +56,26 @@ fn reads_words(rt: HostRuntime) -> Result<(), Fail> {
 fn reads_the_words_of_other_jobs(rt: HostRuntime) -> Result<(), Fail> {
     assert!(rt; job(rt.alloc(), &["check"])? == Some(Job::Check));
     assert!(rt; job(rt.alloc(), &["check", "--grid=1"])?.is_none());
-    assert!(rt; job(rt.alloc(), &["gen", "--count=150"])? == Some(Job::Gen { count: 150 }));
+    assert!(rt;
+        job(rt.alloc(), &["gen", "--count=150"])?
+            == Some(Job::Gen {
+                count: 150,
+                run: false
+            })
+    );
+    let run = Some(Job::Gen {
+        count: 2,
+        run: true,
+    });
+    assert!(rt; job(rt.alloc(), &["gen", "--count=2", "--run"])? == run);
+    assert!(rt; job(rt.alloc(), &["gen", "--run", "--count=2"])? == run);
     for word in ["--count=0", "--count=151", "--count=02", "--grid=1"] {
         assert!(rt; job(rt.alloc(), &["gen", word])?.is_none(), "{word}");
     }
     assert!(rt; job(rt.alloc(), &["gen"])?.is_none());
+    assert!(rt; job(rt.alloc(), &["gen", "--run"])?.is_none());
+    assert!(rt; job(rt.alloc(), &["gen", "--run", "--run"])?.is_none());
     assert!(rt; job(rt.alloc(), &["gen", "--count=1", "--count=1"])?.is_none());
+    assert!(rt; job(rt.alloc(), &["gen", "--count=1", "--run", "--run"])?.is_none());
     Ok(())
 }

@@ -13,6 +13,7 @@ use Rattle.spec_check.specs.Verdicts.{IsSoundElement, elements_in, IsSoundPage}
 use Rattle.table_limits.proofs.Tables.{IsShortSection}
 use Rattle.table_limits.proofs.Spellings.{accepted_short}
 use Rattle.refusal_limits.proofs.Refusals.{IsOutcomeWithin, outcome_within, numbers_within}
+use Rattle.spec_run.specs.Tasks.{Obj}
 use Rattle.spec_run.specs.Findings.{IsPageOf}
 use Rattle.page_laws.proofs.Prints.{print_sound, print_within}
 
@@ -62,7 +63,7 @@ wanted_short : (only : Option ℕ) (ns : List ℕ) → All IsShort ns → All Is
 wanted_short None ns h = h
 wanted_short (Some only) ns h = All-filter (λ n. nat_eq n only) IsShort ns h
 
-pub page_sound : (grid : ℕ) (only : Option ℕ) (given page : List ℕ) (items : List Item) → IsPageGrid grid → IsPageOf grid only given page items → IsSoundPage grid page
+pub page_sound : (grid : ℕ) (only : Option ℕ) (given page : List ℕ) (items : List Item) → IsPageGrid grid → IsPageOf grid only Obj given page items → IsSoundPage grid page
 page_sound grid only given page items range h =
     let file : File = record { section = h.section; unit = h.unit; grid = grid } in
     let read = h.input.file in

@@ -1,3 +1,4 @@
 pub mod Inputs
+pub mod Tasks
 pub mod Findings
 pub mod Reports

@@ -2,3 +2,4 @@ pub mod Floors
 pub mod Sizes
 pub mod Images
 pub mod Prints
+pub mod Copies

@@ -32,3 +32,12 @@ pub record IsMeshOf (number : ℕ) (kind : Kind) (frame : Transform) (step : ℕ
   pub frame_kept : m.frame ≡ frame
   pub step_kept : m.step ≡ step
   pub mesh_kept : m.mesh ≡ mesh
+
+-- what a mesh that is ready to be written holds: what the element is, the grid step in micrometres, and the printed element
+pub record Mesh : Type 0 where
+  pub kind : Kind
+  pub step : ℕ
+  pub element : Element
+
+abbrev pub mesh_of : ElementMesh → Mesh
+mesh_of m = record { kind = m.kind; step = m.step; element = element_of m }

@@ -3,6 +3,7 @@
 #![tactic(auto)]
 
 mod coordinate;
+mod copy;
 mod decimals;
 mod element;
 mod finished;

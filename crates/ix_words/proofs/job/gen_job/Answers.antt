@@ -1,0 +1,5 @@
+use Rattle.ix_words.proofs.Choices.{too_many}
+use Rattle.ix_words.proofs.job.gen_job.Goals as goal
+
+pub returns-in-len3-up : goal.returns-in-len3-up
+returns-in-len3-up c = too_many c.args.words.now c.in-len3-up.len_at_least

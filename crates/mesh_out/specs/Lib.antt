@@ -1,0 +1,2 @@
+pub mod Off
+pub mod Writers

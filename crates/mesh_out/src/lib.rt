@@ -1,0 +1,11 @@
+//! Writers of meshes that are handed in, and one for OFF text.
+#![tactic(auto)]
+
+mod off;
+#[cfg(test)]
+mod tests;
+mod text;
+mod writer;
+
+pub use off::OffWriter;
+pub use writer::MeshWriter;

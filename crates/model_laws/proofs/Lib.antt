@@ -1,0 +1,12 @@
+pub mod Lines
+pub mod Texts
+pub mod Sizes
+pub mod Parts
+pub mod LineLaws
+pub mod Blocks
+pub mod Heads
+pub mod Files
+pub mod Attributes
+pub mod Units
+pub mod Fronts
+pub mod Inputs

@@ -1,0 +1,2 @@
+//! Which meshes the converted elements of a file have.
+#![tactic(auto)]
