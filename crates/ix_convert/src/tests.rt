@@ -156,25 +156,6 @@ fn names_each_element(rt: HostRuntime) -> Result<(), Fail> {
 }
 
 #[test]
-fn keeps_one_element_on_another_grid(rt: HostRuntime) -> Result<(), Fail> {
-    let window: &[u8] = b"#14=IFCSLAB('3',$,$,$,$,#7,$,$,$);#15=IFCCARTESIANPOINT((0.,0.,500.));
-#16=IFCAXIS2PLACEMENT3D(#15,$,$);#17=IFCLOCALPLACEMENT(#7,#16);
-#18=IFCOPENINGELEMENT('4',$,$,$,$,#17,#12,$,$);#19=IFCRELVOIDSELEMENT('5',$,$,$,#13,#18);";
-    let source = file(rt.alloc(), &[HEAD, PROJECT, WALL, window, END])?;
-    let words = ["convert", "--only=13", "--grid=500"];
-    let left = run(rt.alloc(), &words, &mut MemSource::new(source), 40_000, 400)?;
-    assert_eq!(rt; left.status, Status::Done);
-    for text in [
-        b"# ifcexact 1\n# grid 500\no 13\n#frame 1000000000 0 0".as_slice(),
-        // The upper half is cut away.
-        b"\n#vol6 3000000000000000000\n# end\n".as_slice(),
-    ] {
-        assert!(rt; has(&left.page, text));
-    }
-    Ok(())
-}
-
-#[test]
 fn refuses_files_in_order(rt: HostRuntime) -> Result<(), Fail> {
     let twice: &[u8] = b"#9=IFCWALL('2',$,'w',$,$,#7,$,$,$);";
     let cut = convert(rt.alloc(), &[HEAD, b"#13=IFCW"])?;
@@ -252,7 +233,8 @@ fn answers_faults_of_the_outside(rt: HostRuntime) -> Result<(), Fail> {
         &mut page,
     );
     assert_eq!(rt; status.code(), 4);
-    assert!(rt; out.held() == &page.as_slice()[..128]);
+    assert_eq!(rt; out.held().len(), 128);
+    assert!(rt; page.as_slice().starts_with(out.held()));
     assert!(rt; rep.held().is_empty());
 
     let left = run(
