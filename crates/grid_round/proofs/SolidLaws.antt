@@ -91,6 +91,7 @@ rounded_bounded step (shape.Combined operator first second) r e =
     ap is_bounded (sym both.whole)
     ∙ (λ i. stays_bounded operator (rounded_bounded step first both.first both.first_is i) (rounded_bounded step second both.second both.second_is i))
     ∙ same_rule operator (shape.is_bounded first) (shape.is_bounded second)
+rounded_bounded step (shape.Numbered at inner) r e = rounded_bounded step inner r e
 
 -- ---- counts
 edges_count : (first : Vector) (us : List Vector) → length (edges_from first us) ≡ length us
@@ -153,6 +154,7 @@ rounded_few step (shape.Combined operator first second) r e =
     let both = both_values (round_shape step first) (round_shape step second) operator r e in
     subst (λ s. plane_count s ≤ 4 * (count_triangles first + count_triangles second)) both.whole
     (four_sum (plane_count both.first) (plane_count both.second) (count_triangles first) (count_triangles second) (rounded_few step first both.first both.first_is) (rounded_few step second both.second both.second_is))
+rounded_few step (shape.Numbered at inner) r e = rounded_few step inner r e
 
 -- ---- items
 pub record AreListed (x : Read Solid) (y : Read (List Solid)) (ss : List Solid) : Type 0 where

@@ -48,12 +48,13 @@ pub fn round_shape(alloc: Global, solid: &Solid, step: u32) -> Result<GridNode, 
             operator,
             first,
             second,
+            ..
         } => {
             let first = round_shape(alloc, first.get(), step)?;
             let second = round_shape(alloc, second.get(), step)?;
             Ok(combined(alloc, *operator, first, second)?)
         }
-        Solid::Union { parts } => Ok(GridNode::Union {
+        Solid::Union { parts, .. } => Ok(GridNode::Union {
             parts: round_parts(alloc, parts.as_slice(), step)?,
         }),
     }

@@ -144,6 +144,7 @@ fn boolean_result(
     let second = Boxed::new(alloc, second)?;
     Ok((
         Solid::Combined {
+            at,
             operator,
             first,
             second,
@@ -152,7 +153,7 @@ fn boolean_result(
     ))
 }
 
-/// A tree of solids by its root (IfcCsgSolid).
+/// A tree of solids (IfcCsgSolid): a union whose one part is its root.
 #[cycle(solid)]
 fn csg_solid(
     alloc: Global,
@@ -168,8 +169,11 @@ fn csg_solid(
     ensures value { ReadsSolid result (csg_solid (file_of table.now g.now) (solid deeper (file_of table.now g.now)) at map.now count) }
     ensures few { IfOk result (λ read. read.1 ≤ 4096) }
 {
-    let root = wanted_instance(table, at, 1)?;
-    solid(alloc, table, g, root, map, deeper, count)
+    let root_at = wanted_instance(table, at, 1)?;
+    let (root, reached) = solid(alloc, table, g, root_at, map, deeper, count)?;
+    let mut parts = Items::new(alloc);
+    parts.push(root)?;
+    Ok((Solid::Union { at, parts }, reached))
 }
 
 /// The solids that the members of the items of a representation name, under a map.
@@ -230,7 +234,7 @@ fn mapped_item(
         deeper,
         count,
     )?;
-    Ok((Solid::Union { parts }, reached))
+    Ok((Solid::Union { at, parts }, reached))
 }
 
 /// The solid of an instance of the file under a map, at a depth that counts from 1, and the count of the element's triangles

@@ -132,6 +132,7 @@ pub fn bounded_half_space(
     let column = column(alloc, at, g.step, &placed, boundary)?;
     Ok((
         Solid::Combined {
+            at,
             operator: BoolOp::Intersection,
             first: Boxed::new(alloc, half)?,
             second: Boxed::new(alloc, column)?,

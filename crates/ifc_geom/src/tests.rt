@@ -47,17 +47,18 @@ fn push_solid(text: &mut String, solid: &Solid) -> Result<(), AllocError> {
             write!(text, "#{at} at {} {agreement}", transform.off.x)
         }
         Solid::Combined {
+            at,
             operator,
             first,
             second,
         } => {
-            write!(text, "{operator:?} of ")?;
+            write!(text, "#{at} {operator:?} of ")?;
             push_solid(text, first.get())?;
             text.push_str(" and ")?;
             push_solid(text, second.get())
         }
-        Solid::Union { parts } => {
-            text.push_str("all of ")?;
+        Solid::Union { at, parts } => {
+            write!(text, "#{at} all of ")?;
             for part in parts.as_slice() {
                 push_solid(text, part)?;
                 text.push_str("; ")?;
@@ -96,16 +97,16 @@ fn reads_solids(rt: HostRuntime) -> Result<(), Fail> {
         (8, "#8 at 1000 true, 1"),
         (
             9,
-            "Difference of #5 by 1000000000 at 1000, 6 faces and #8 at 1000 true, 25",
+            "#9 Difference of #5 by 1000000000 at 1000, 6 faces and #8 at 1000 true, 25",
         ),
         (
             12,
-            "Intersection of #12 at 1000 false and #12 by 1000000000 at 1000, 5 faces, 19",
+            "#12 Intersection of #12 at 1000 false and #12 by 1000000000 at 1000, 5 faces, 19",
         ),
-        (13, "#6 by 1000000000 at 1000, 6 faces, 24"),
+        (13, "#13 all of #6 by 1000000000 at 1000, 6 faces; , 24"),
         (
             17,
-            "all of #6 by 2000000000 at 5000, 6 faces; #6 by 2000000000 at 5000, 6 faces; , 48",
+            "#17 all of #6 by 2000000000 at 5000, 6 faces; #13 all of #6 by 2000000000 at 5000, 6 faces; ; , 48",
         ),
         (18, "Refused(TooDeep { at: 18 })"),
         (19, "Refused(BadAttribute { at: 19, position: 1 })"),

@@ -9,7 +9,7 @@ use Rattle.spec_place.specs.declared.transform.Transform.{Transform}
 use Rattle.spec_place.specs.declared.half.HalfSpace.{HalfSpace}
 use Rattle.spec_place.specs.declared.fault.PlaceFault.{PlaceFault}
 use Rattle.spec_place.specs.HalfSpaces as halves
-use Rattle.spec_shape.specs.Shapes.{Face, Shape, Faces, Half, Combined, ShapeItem, ElementShape, is_bounded}
+use Rattle.spec_shape.specs.Shapes.{Face, Shape, Faces, Half, Combined, Numbered, ShapeItem, ElementShape, is_bounded}
 use Rattle.spec_shell.specs.Edges.{Edge, is_same_place, is_before, is_edge_before, joins, oddly, rising, odd_edges, least_of, open_edge}
 use Rattle.spec_refusal.specs.declared.Refusal.TheVariants.{CornerTooFar, PlaneTooLarge}
 use Rattle.spec_grid.specs.Forms.{is_fitting}
@@ -129,6 +129,7 @@ shape_kept : (grid : ℕ) (s : Shape) → IsShortShape s → IsKept Any (round_s
 shape_kept grid (Faces at m faces) h = shell_kept at (map (face_on_grid grid m) faces) h.0 (on_grid grid m faces h.1)
 shape_kept grid (Half at m agreement) h = half_kept at (halves.half_space m grid agreement) h
 shape_kept grid (Combined o first second) h = onward (shape_kept grid first h.0) (λ f _. onward (shape_kept grid second h.1) (λ s _. read tt))
+shape_kept grid (Numbered at shape) h = shape_kept grid shape h
 
 items_kept : (grid : ℕ) (is : List ShapeItem) → Each IsShortItem is → IsKept Any (round_items grid is)
 items_kept grid [] h = read tt

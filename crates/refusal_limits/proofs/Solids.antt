@@ -7,7 +7,7 @@ use Rattle.spec_step.specs.declared.tree.Param.{Param}
 use Rattle.ifc_kinds.specs.declared.kind.Kind.TheVariants as kind
 use Rattle.spec_place.specs.declared.transform.Transform.{Transform}
 use Rattle.spec_shape.specs.Profiles.{planar}
-use Rattle.spec_shape.specs.Shapes.{Shape, Faces, Half, Combined, united, prism_faces, upwards, lifted, block_faces}
+use Rattle.spec_shape.specs.Shapes.{Shape, Faces, Half, Combined, Numbered, united, prism_faces, upwards, lifted, block_faces}
 use Rattle.spec_entity.specs.Reads.{has_kind, is_one_of}
 use Rattle.spec_geometry.specs.Files.{File}
 use Rattle.spec_geometry.specs.Solids as solids
@@ -27,6 +27,7 @@ abbrev pub IsShortShape : Shape → Type 0
 IsShortShape (Faces at map faces) = IsShort at × Each IsShortFace faces
 IsShortShape (Half at map agreement) = IsShort at
 IsShortShape (Combined operator first second) = IsShortShape first × IsShortShape second
+IsShortShape (Numbered at shape) = IsShortShape shape
 
 faces_each : (at : ℕ) (all : List (List (List Vector))) → IsShort at → Each IsShortFace (map (λ loops. record { at = at; loops = loops }) all)
 faces_each at [] h = tt
@@ -104,7 +105,7 @@ module _ (file : File) (short : IsShortSection file.section) where
         onward (operand_kept n 3 map first.1 h refl k.count) (λ second m. read (record { value = (k.value, m.value); count = m.count }))))
 
     csg_kept : AllKept (csg_solid file inner)
-    csg_kept n map count h c = operand_kept n 1 map count h refl c
+    csg_kept n map count h c = onward (operand_kept n 1 map count h refl c) (λ root k. read (record { value = united_short (root.0 ∷ []) (k.value, tt); count = k.count }))
 
     member_solid_kept : (representation : ℕ) (map : Transform) (q : Param) (count : ℕ) → IsShort representation → IsShortParam q → IsCount count
         → IsKept (IsCounted IsShortShape) (member_solid file inner representation map q count)

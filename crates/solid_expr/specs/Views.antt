@@ -1,6 +1,6 @@
 -- What a solid stands for in the definitions.
 use Rattle.std.specs.Prelude.{List, map}
-use Rattle.spec_shape.specs.Shapes.{Shape, Faces, Half, Combined, united, ShapeItem, ElementShape}
+use Rattle.spec_shape.specs.Shapes.{Shape, Faces, Half, Combined, Numbered, united, ShapeItem, ElementShape}
 use Rattle.solid_expr.specs.declared.solid.Solid.{Solid}
 use Rattle.solid_expr.specs.declared.solid.Solid.TheOpen.{Solid-F}
 use Rattle.solid_expr.specs.declared.solid.Solid.TheOpen as layer
@@ -11,8 +11,8 @@ use Rattle.solid_expr.specs.declared.solid.ElementSolid.{ElementSolid}
 abbrev pub layer_of : Solid-F Shape → Shape
 layer_of (layer.Faces at map faces) = Faces at map faces.items
 layer_of (layer.Half at map agreement) = Half at map agreement
-layer_of (layer.Combined operator first second) = Combined operator first second
-layer_of (layer.Union parts) = united parts
+layer_of (layer.Combined at operator first second) = Numbered at (Combined operator first second)
+layer_of (layer.Union at parts) = Numbered at (united parts)
 
 -- the shape of a solid
 abbrev pub shape_of : Solid → Shape

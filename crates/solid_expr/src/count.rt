@@ -31,12 +31,13 @@ pub fn is_bounded(solid: &Solid) -> bool
             operator,
             first,
             second,
+            ..
         } => {
             let is_first = is_bounded(first.get());
             let is_second = is_bounded(second.get());
             is_bounded_by(*operator, is_first, is_second)
         }
-        Solid::Union { parts } => are_bounded(parts.as_slice()),
+        Solid::Union { parts, .. } => are_bounded(parts.as_slice()),
     }
 }
 
@@ -101,7 +102,7 @@ pub fn count_triangles(solid: &Solid) -> u128
         Solid::Combined { first, second, .. } => {
             count_triangles(first.get()) + count_triangles(second.get())
         }
-        Solid::Union { parts } => count_parts(parts.as_slice()),
+        Solid::Union { parts, .. } => count_parts(parts.as_slice()),
     }
 }
 

@@ -3,8 +3,8 @@ use ix_place::{Frame, Map};
 use spec_solid::BoolOp;
 use sqlite_items::{Boxed, Items};
 
-/// A solid as it is read, before it is mapped to the grid and rounded. `at` is the number of the instance that a refusal
-/// of it names.
+/// A solid as it is read, before it is mapped to the grid and rounded. `at` is the number of its instance, which a refusal of
+/// a primitive names.
 #[derive(Debug, Drop)]
 pub enum Solid {
     /// A primitive by its faces, whose corners are those before the map.
@@ -20,14 +20,16 @@ pub enum Solid {
         map: Map,
         agreement: bool,
     },
-    /// Two solids combined (IfcBooleanResult, IfcBooleanClippingResult).
+    /// Two solids combined (IfcBooleanResult, IfcBooleanClippingResult, and a half-space with its boundary).
     Combined {
+        at: u64,
         operator: BoolOp,
         first: Boxed<Solid>,
         second: Boxed<Solid>,
     },
-    /// Solids united (IfcMappedItem); none have no points.
+    /// Solids united (IfcMappedItem, and IfcCsgSolid with its root alone); none have no points.
     Union {
+        at: u64,
         parts: Items<Solid>,
     },
 }

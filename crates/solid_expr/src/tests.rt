@@ -58,6 +58,7 @@ fn combined(
 {
     let first = Boxed::new(alloc, first)?;
     Ok(Solid::Combined {
+        at: 9,
         operator,
         first,
         second: Boxed::new(alloc, second)?,
@@ -114,6 +115,6 @@ fn counts_and_bounds_solids(rt: HostRuntime) -> Result<(), Fail> {
     let mut parts = Items::new(rt.alloc());
     parts.push(block(rt.alloc())?)?;
     parts.push(half())?;
-    assert!(rt; !is_bounded(&Solid::Union { parts }));
+    assert!(rt; !is_bounded(&Solid::Union { at: 10, parts }));
     Ok(())
 }

@@ -10,7 +10,7 @@ use Rattle.spec_place.specs.Vectors.{times, divided, one}
 use Rattle.spec_place.specs.declared.transform.Transform.{Transform}
 use Rattle.spec_refusal.specs.declared.Refusal.TheVariants.{Unsupported, TooDeep}
 use Rattle.spec_refusal.specs.Reads.{Read, next}
-use Rattle.spec_shape.specs.Shapes.{Shape, Faces, Half, Combined, united, prism_faces, block_faces, lifted, upwards}
+use Rattle.spec_shape.specs.Shapes.{Shape, Faces, Half, Combined, Numbered, united, prism_faces, block_faces, lifted, upwards}
 use Rattle.spec_entity.specs.Reads.{has_kind, is_one_of, named_instance, member_instance, members}
 use Rattle.spec_entity.specs.Operators.{operator}
 use Rattle.spec_geometry.specs.Files.{File, positive, boolean, wanted_instance}
@@ -74,7 +74,7 @@ bounded_half_space file n map count =
     next (half_space file n map count) (λ half.
     next (map_within file map n 3) (λ placed.
     next (named_curve file n 4) (λ points.
-    next (count_loop half.1 points) (λ more. Ok (Combined Intersection half.0 (column n file.grid placed points), more)))))
+    next (count_loop half.1 points) (λ more. Ok (Numbered n (Combined Intersection half.0 (column n file.grid placed points)), more)))))
 
 -- Solids of other solids, each read under a map with the count so far.
 
@@ -90,11 +90,11 @@ abbrev pub boolean_result : File → Inner → ℕ → Transform → ℕ → Cou
 boolean_result file inner n map count =
     next (operator file.section n) (λ o.
     next (operand file inner n 2 map count) (λ first.
-    next (operand file inner n 3 map first.1) (λ second. Ok (Combined o first.0 second.0, second.1))))
+    next (operand file inner n 3 map first.1) (λ second. Ok (Numbered n (Combined o first.0 second.0), second.1))))
 
--- IfcCsgSolid
+-- IfcCsgSolid: a union whose one part is its root
 abbrev pub csg_solid : File → Inner → ℕ → Transform → ℕ → Counted Shape
-csg_solid file inner n map count = operand file inner n 1 map count
+csg_solid file inner n map count = next (operand file inner n 1 map count) (λ root. Ok (Numbered n (united (root.0 ∷ [])), root.1))
 
 -- an item of a representation
 abbrev pub member_solid : File → Inner → ℕ → Transform → Param → ℕ → Counted Shape
@@ -118,7 +118,7 @@ mapped_item file inner n map count =
     next (named_instance file.section (kind.ShapeRepresentation ∷ []) source 2) (λ representation.
     next (members file.section representation 4) (λ ps.
     next (mapped file n map origin) (λ inwards.
-    next (each_counted (member_solid file inner representation inwards) ps count) (λ parts. Ok (united parts.0, parts.1)))))))
+    next (each_counted (member_solid file inner representation inwards) ps count) (λ parts. Ok (Numbered n (united parts.0), parts.1)))))))
 
 -- the solid of an instance under a map, where what it names is read so
 abbrev pub solid_by : File → Inner → Inner

@@ -84,6 +84,7 @@ round_shape grid (Faces at m faces) = shell at (map (face_on_grid grid m) faces)
 round_shape grid (Half at m agreement) = half at (half_space m grid agreement)
 round_shape grid (shape.Combined operator first second) =
     next (round_shape grid first) (λ f. next (round_shape grid second) (λ s. Ok (Combined operator f s)))
+round_shape grid (shape.Numbered at inner) = round_shape grid inner
 
 abbrev pub round_items : ℕ → List ShapeItem → Read (List Solid)
 round_items grid [] = Ok []

@@ -14,11 +14,12 @@ pub record Face : Type 0 where
   pub loops : List (List Vector)
 
 -- a primitive by its number, its map and its faces before the map; a half-space by its number, the map composed with the
--- axes of its plane, and its AgreementFlag; and two solids combined
+-- axes of its plane, and its AgreementFlag; two solids combined; and what an instance of a number makes of other solids
 pub data Shape : Type 0 where
   Faces : ℕ → Transform → List Face → Shape
   Half : ℕ → Transform → Bool → Shape
   Combined : BoolOp → Shape → Shape → Shape
+  Numbered : ℕ → Shape → Shape
 
 -- what has no points: a primitive without faces
 abbrev pub nothing : Shape
@@ -51,6 +52,7 @@ abbrev pub is_bounded : Shape → Bool
 is_bounded (Faces at map faces) = true
 is_bounded (Half at map agreement) = false
 is_bounded (Combined operator first second) = is_bounded_by operator (is_bounded first) (is_bounded second)
+is_bounded (Numbered at shape) = is_bounded shape
 
 -- Counts: a triangle for each edge of a loop, and one for each half-space.
 abbrev pub face_count : Face → ℕ
@@ -60,6 +62,7 @@ abbrev pub count_triangles : Shape → ℕ
 count_triangles (Faces at map faces) = sum_by face_count faces
 count_triangles (Half at map agreement) = 1
 count_triangles (Combined operator first second) = count_triangles first + count_triangles second
+count_triangles (Numbered at shape) = count_triangles shape
 
 abbrev pub item_count : ShapeItem → ℕ
 item_count item = count_triangles item.shape

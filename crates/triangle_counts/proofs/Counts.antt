@@ -14,7 +14,7 @@ use Rattle.spec_place.specs.Transforms.{identity}
 use Rattle.spec_place.specs.Chains.{Link}
 use Rattle.spec_refusal.specs.declared.Refusal.TheVariants.{Unsupported}
 use Rattle.spec_refusal.specs.Reads.{Read, next}
-use Rattle.spec_shape.specs.Shapes.{Face, face_count, Shape, Faces, Half, Combined, nothing, united, ShapeItem, ElementShape, count_triangles, item_count, element_count, prism_faces, block_faces}
+use Rattle.spec_shape.specs.Shapes.{Face, face_count, Shape, Faces, Half, Combined, Numbered, nothing, united, ShapeItem, ElementShape, count_triangles, item_count, element_count, prism_faces, block_faces}
 use Rattle.spec_entity.specs.Reads.{has_kind, is_one_of, instance_of_kinds, named_instance, member_instance, members, wanted_value}
 use Rattle.spec_entity.specs.Operators.{operator}
 use Rattle.spec_entity.specs.Elements.{Representation, representation}
@@ -162,7 +162,7 @@ column_triangles n grid map points = sym (column_count n points _ _)
 
 bounded_adds : (file : File) (n : ℕ) (map : Transform) (count : ℕ) → IfOk (solids.bounded_half_space file n map count) (Counts count)
 bounded_adds file n map count =
-    let made : Shape × ℕ → Transform → List Vector → ℕ → Counted Shape = λ half placed points more. Ok (Combined Intersection half.0 (column n file.grid placed points), more) in
+    let made : Shape × ℕ → Transform → List Vector → ℕ → Counted Shape = λ half placed points more. Ok (Numbered n (Combined Intersection half.0 (column n file.grid placed points)), more) in
     let counted : Shape × ℕ → Transform → List Vector → Counted Shape = λ half placed points. next (count_loop half.1 points) (made half placed points) in
     let stood : Shape × ℕ → Transform → Counted Shape = λ half placed. next (named_curve file n 4) (counted half placed) in
     let read : Shape × ℕ → Counted Shape = λ half. next (map_within file map n 3) (stood half) in
@@ -186,7 +186,7 @@ operand_adds file inner n position map count all =
 
 pair_adds : (file : File) (inner : Inner) (n : ℕ) (map : Transform) (count : ℕ) → AllAdd inner → IfOk (solids.boolean_result file inner n map count) (Counts count)
 pair_adds file inner n map count all =
-    let made : BoolOp → Shape × ℕ → Shape × ℕ → Counted Shape = λ o first second. Ok (Combined o first.0 second.0, second.1) in
+    let made : BoolOp → Shape × ℕ → Shape × ℕ → Counted Shape = λ o first second. Ok (Numbered n (Combined o first.0 second.0), second.1) in
     let half : BoolOp → Shape × ℕ → Counted Shape = λ o first. next (operand file inner n 3 map first.1) (made o first) in
     let read : BoolOp → Counted Shape = λ o. next (operand file inner n 2 map count) (half o) in
     keeps (Counts count) (operator file.section n) read (λ o _.
@@ -195,6 +195,15 @@ pair_adds file inner n map count all =
     then_more count (count_triangles first.0) first.1 (count_triangles second.0) second.1
     (IfOk-at_ok (Counts count) e (operand_adds file inner n 2 map count all))
     (IfOk-at_ok (Counts first.1) d (operand_adds file inner n 3 map first.1 all)))))
+
+alone : (n : ℕ) → n ≡ n + 0
+alone n = omega arith
+
+root_adds : (file : File) (inner : Inner) (n : ℕ) (map : Transform) (count : ℕ) → AllAdd inner → IfOk (solids.csg_solid file inner n map count) (Counts count)
+root_adds file inner n map count all =
+    let made : Shape × ℕ → Counted Shape = λ root. Ok (Numbered n (united (root.0 ∷ [])), root.1) in
+    keeps (Counts count) (operand file inner n 1 map count) made (λ root e.
+    as_many count (count_triangles root.0) (count_triangles (united (root.0 ∷ []))) root.1 (alone (count_triangles root.0)) (IfOk-at_ok (Counts count) e (operand_adds file inner n 1 map count all)))
 
 united_count : (parts : List Shape) → sum_by count_triangles parts ≡ count_triangles (united parts)
 united_count [] = refl
@@ -206,7 +215,7 @@ member_adds file inner representation map p count all =
 
 mapped_adds : (file : File) (inner : Inner) (n : ℕ) (map : Transform) (count : ℕ) → AllAdd inner → IfOk (solids.mapped_item file inner n map count) (Counts count)
 mapped_adds file inner n map count all =
-    let made : List Shape × ℕ → Counted Shape = λ parts. Ok (united parts.0, parts.1) in
+    let made : List Shape × ℕ → Counted Shape = λ parts. Ok (Numbered n (united parts.0), parts.1) in
     let read : ℕ → List Param → Transform → Counted Shape = λ representation ps inwards. next (each_counted (member_solid file inner representation inwards) ps count) made in
     let moved : Transform → ℕ → List Param → Counted Shape = λ origin representation ps. next (mapped file n map origin) (read representation ps) in
     let listed : Transform → ℕ → Counted Shape = λ origin representation. next (members file.section representation 4) (moved origin representation) in
@@ -238,7 +247,7 @@ solid_by_adds file inner n map count all =
     (either (Counts count) (is_one_of file.section (kind.HalfSpaceSolid ∷ kind.BoxedHalfSpace ∷ []) n) (solids.half_space file n map count) fifth (half_adds file n map count)
     (either (Counts count) (has_kind file.section n kind.PolygonalBoundedHalfSpace) (solids.bounded_half_space file n map count) sixth (bounded_adds file n map count)
     (either (Counts count) (is_one_of file.section (kind.BooleanResult ∷ kind.BooleanClippingResult ∷ []) n) (solids.boolean_result file inner n map count) seventh (pair_adds file inner n map count all)
-    (either (Counts count) (has_kind file.section n kind.CsgSolid) (solids.csg_solid file inner n map count) eighth (operand_adds file inner n 1 map count all)
+    (either (Counts count) (has_kind file.section n kind.CsgSolid) (solids.csg_solid file inner n map count) eighth (root_adds file inner n map count all)
     (either (Counts count) (has_kind file.section n kind.MappedItem) (solids.mapped_item file inner n map count) refused (mapped_adds file inner n map count all) tt)))))))
 
 solid_adds : (deeper : ℕ) (file : File) → AllAdd (solid deeper file)
