@@ -5,8 +5,6 @@ mod frames;
 mod maps;
 mod placements;
 mod plane;
-#[cfg(test)]
-mod tests;
 
 pub use frames::{axes, if_axes, named_axes};
 pub use ifc_numbers::{

@@ -4,7 +4,5 @@
 mod bounds;
 mod faces;
 mod shells;
-#[cfg(test)]
-mod tests;
 
 pub use shells::brep_faces;

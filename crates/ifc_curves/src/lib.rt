@@ -7,8 +7,6 @@ mod curves;
 mod outlines;
 mod points;
 mod segments;
-#[cfg(test)]
-mod tests;
 
 pub use counts::{count_loop, count_with};
 pub use curves::{CURVE_KINDS, curve, named_curve};

@@ -4,8 +4,6 @@
 mod combined;
 mod half_spaces;
 mod primitives;
-#[cfg(test)]
-mod tests;
 
 pub use combined::read_solid;
 pub use ifc_axes::{GeomIn, ItemFault, length_unit, opening_frame, read_chain, world_frame};

@@ -5,8 +5,6 @@ mod faults;
 mod measures;
 mod numbers;
 mod points;
-#[cfg(test)]
-mod tests;
 mod units;
 
 pub use entity_reader::wanted_instance;

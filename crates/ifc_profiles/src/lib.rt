@@ -5,7 +5,5 @@ mod curved;
 mod loops;
 mod measured;
 mod profiles;
-#[cfg(test)]
-mod tests;
 
 pub use profiles::named_profile;

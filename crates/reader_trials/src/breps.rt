@@ -1,5 +1,6 @@
-use super::*;
+use crate::samples::edited;
 use entity_reader::has_kind;
+use ifc_breps::brep_faces;
 use ifc_kinds::Kind;
 use ifc_numbers::GeomIn;
 use ix_place::{LengthUnit, Prefix};
@@ -24,15 +25,6 @@ const SAMPLE: &str = "ISO-10303-21;HEADER;FILE_SCHEMA(('IFC4'));ENDSEC;DATA;
 #12=IFCCLOSEDSHELL((#10));
 #13=IFCFACETEDBREPWITHVOIDS(#11,(#12,#12));
 ENDSEC;END-ISO-10303-21;";
-
-/// The sample with one text in place of another.
-fn edited(alloc: Global, old: &str, new: &str) -> Result<String, AllocError> {
-    let (before, behind) = SAMPLE.split_once(old).unwrap_or((SAMPLE, ""));
-    let mut text = String::from_str(alloc, before)?;
-    text.push_str(new)?;
-    text.push_str(behind)?;
-    Ok(text)
-}
 
 /// The faces by their numbers and the numbers of corners of their loops.
 fn faces_text(alloc: Global, faces: &[Face]) -> Result<String, AllocError> {
@@ -89,7 +81,7 @@ fn reads_breps(rt: HostRuntime) -> Result<(), Fail> {
             "Refused(BadAttribute { at: 13, position: 2 })",
         ),
     ] {
-        let text = edited(rt.alloc(), old, new)?;
+        let text = edited(rt.alloc(), SAMPLE, old, new)?;
         assert_eq!(rt;
             answer(rt.alloc(), text.as_str())?.as_str(),
             want,

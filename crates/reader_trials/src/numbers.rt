@@ -1,6 +1,10 @@
-use super::*;
+use crate::samples::edited;
 use entity_reader::has_kind;
 use ifc_kinds::Kind;
+use ifc_numbers::{
+    GeomIn, boolean, if_direction, if_plane_direction, length_unit, named_point, number_if_set,
+    positive, zero,
+};
 use spec_refusal::UnitFault;
 use std::alloc::{AllocError, Global};
 use std::test::Fail;
@@ -17,15 +21,6 @@ const SAMPLE: &str = "ISO-10303-21;HEADER;FILE_SCHEMA(('IFC4'));ENDSEC;DATA;
 #7=IFCCARTESIANPOINT((1.,-2.5,3.));
 #8=IFCDIRECTION((3.,4.,12.));
 ENDSEC;END-ISO-10303-21;";
-
-/// The sample with one text in place of another.
-fn edited(alloc: Global, old: &str, new: &str) -> Result<String, AllocError> {
-    let (before, behind) = SAMPLE.split_once(old).unwrap_or((SAMPLE, ""));
-    let mut text = String::from_str(alloc, before)?;
-    text.push_str(new)?;
-    text.push_str(behind)?;
-    Ok(text)
-}
 
 /// The unit of length of a text.
 fn unit(alloc: Global, text: &str) -> Result<Option<Result<i64, UnitFault>>, AllocError> {
@@ -48,7 +43,7 @@ fn finds_units(rt: HostRuntime) -> Result<(), Fail> {
         ("#1));", "#5));", Ok(1_000_000)),
         ("IFCPROJECT", "IFCPROJEKT", Err(UnitFault::NoProject)),
     ] {
-        let text = edited(rt.alloc(), old, new)?;
+        let text = edited(rt.alloc(), SAMPLE, old, new)?;
         assert_eq!(rt; unit(rt.alloc(), text.as_str())?, Some(want), "at {new}");
     }
     Ok(())

@@ -1,4 +1,4 @@
-use super::*;
+use ifc_geom::{GeomIn, read_solid};
 use ix_place::{Frame, LengthUnit, Map, Prefix};
 use solid_expr::Solid;
 use std::alloc::{AllocError, Global};

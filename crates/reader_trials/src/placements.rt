@@ -1,5 +1,8 @@
-use super::*;
 use entity_reader::has_kind;
+use ifc_axes::{
+    GeomIn, if_plane_axes, length_unit, map_within, map_within_if, opening_frame, operator,
+    read_chain, world_frame,
+};
 use ifc_kinds::Kind;
 use ix_place::{Frame, Map};
 use spec_refusal::Refusal;

@@ -1,7 +1,8 @@
-use super::*;
+use crate::samples::edited;
 use entity_reader::has_kind;
 use ifc_axes::GeomIn;
 use ifc_kinds::Kind;
+use ifc_profiles::named_profile;
 use ix_place::{LengthUnit, Prefix};
 use ix_profile::Loops;
 use std::alloc::{AllocError, Global};
@@ -21,15 +22,8 @@ const SAMPLE: &str = "ISO-10303-21;HEADER;FILE_SCHEMA(('IFC4'));ENDSEC;DATA;
 #10=IFCEXTRUDEDAREASOLID(#9,$,$,1.);
 ENDSEC;END-ISO-10303-21;";
 
-/// The sample with another line of the profile.
-fn with_profile(alloc: Global, line: &str) -> Result<String, AllocError> {
-    let old = "#9=IFCARBITRARYPROFILEDEFWITHVOIDS(.AREA.,$,#3,(#4));";
-    let (before, behind) = SAMPLE.split_once(old).unwrap_or((SAMPLE, ""));
-    let mut text = String::from_str(alloc, before)?;
-    text.push_str(line)?;
-    text.push_str(behind)?;
-    Ok(text)
-}
+/// The line of the profile in the sample.
+const PROFILE: &str = "#9=IFCARBITRARYPROFILEDEFWITHVOIDS(.AREA.,$,#3,(#4));";
 
 /// The corners of loops in micrometres.
 fn loops_text(alloc: Global, loops: &Loops) -> Result<String, AllocError> {
@@ -70,7 +64,7 @@ fn answer(alloc: Global, text: &str) -> Result<String, AllocError> {
 fn reads_profiles(rt: HostRuntime) -> Result<(), Fail> {
     for (line, want) in [
         (
-            "#9=IFCARBITRARYPROFILEDEFWITHVOIDS(.AREA.,$,#3,(#4));",
+            PROFILE,
             "0,0 4000,0 4000,3000 0,3000 | 1000,1000 2000,1000 1000,2000 | 142",
         ),
         (
@@ -102,7 +96,7 @@ fn reads_profiles(rt: HostRuntime) -> Result<(), Fail> {
             "Refused(Unsupported { at: 9 })",
         ),
     ] {
-        let text = with_profile(rt.alloc(), line)?;
+        let text = edited(rt.alloc(), SAMPLE, PROFILE, line)?;
         assert_eq!(rt;
             answer(rt.alloc(), text.as_str())?.as_str(),
             want,

@@ -1,5 +1,6 @@
-use super::*;
+use crate::samples::edited;
 use entity_reader::has_kind;
+use ifc_curves::{count_loop, named_curve};
 use ifc_kinds::Kind;
 use ifc_numbers::GeomIn;
 use ix_place::{LengthUnit, Prefix};
@@ -17,15 +18,6 @@ const SAMPLE: &str = "ISO-10303-21;HEADER;FILE_SCHEMA(('IFC4'));ENDSEC;DATA;
 #6=IFCINDEXEDPOLYCURVE(#5,(IFCLINEINDEX((1,2,3)),IFCLINEINDEX((3,4,1))),.F.);
 #9=IFCARBITRARYCLOSEDPROFILEDEF(.AREA.,$,#6);
 ENDSEC;END-ISO-10303-21;";
-
-/// The sample with one text in place of another.
-fn edited(alloc: Global, old: &str, new: &str) -> Result<String, AllocError> {
-    let (before, behind) = SAMPLE.split_once(old).unwrap_or((SAMPLE, ""));
-    let mut text = String::from_str(alloc, before)?;
-    text.push_str(new)?;
-    text.push_str(behind)?;
-    Ok(text)
-}
 
 /// The corners of the curve of the profile, and how many triangles its sweep has.
 fn curve_text(alloc: Global, table: &Table<'_>) -> Result<String, AllocError> {
@@ -93,7 +85,7 @@ fn reads_curves(rt: HostRuntime) -> Result<(), Fail> {
             "Refused(BadAttribute { at: 6, position: 1 })",
         ),
     ] {
-        let text = edited(rt.alloc(), old, new)?;
+        let text = edited(rt.alloc(), SAMPLE, old, new)?;
         assert_eq!(rt;
             answer(rt.alloc(), text.as_str())?.as_str(),
             want,
