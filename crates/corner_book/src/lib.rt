@@ -6,8 +6,6 @@ mod book;
 mod lists;
 mod order;
 mod places;
-#[cfg(test)]
-mod tests;
 
 pub use book::CornerBook;
 pub use order::before_on_line;

@@ -23,7 +23,7 @@ fn element_faces(
     ensures { IfOk result (λ faces. AreFacesOfBody book.new (body_of solid.now) faces.items) }
 {
     let mut pool = Pool::new(alloc)?;
-    let tree = solid_tree(alloc, book, &mut pool, solid)?;
+    let tree = solid_tree(alloc, book, &mut pool, solid, &[])?;
     let _planes = book.count();
     all_faces(alloc, book, &pool, tree)
 }

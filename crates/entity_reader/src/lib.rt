@@ -5,8 +5,6 @@
 mod element_list;
 mod kinds;
 mod lists;
-#[cfg(test)]
-mod tests;
 mod units;
 
 pub use element_list::{element_kind, elements};

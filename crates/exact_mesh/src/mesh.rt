@@ -6,7 +6,7 @@ ghost use Rattle.exact_mesh.specs.Meshes.{face_of};
 use plane_core::Corner;
 
 /// A face of a mesh. Edge i goes from corner i to the next, and the last one to the first corner.
-#[derive(Debug, Drop)]
+#[derive(Drop)]
 pub struct MeshFace {
     /// The face's plane `ax + by + cz = d` in grid steps, with its normal outwards.
     pub plane: [i128; 4],
@@ -17,7 +17,7 @@ pub struct MeshFace {
 }
 
 /// A mesh with exact corners, in grid steps.
-#[derive(Debug, Drop)]
+#[derive(Drop)]
 pub struct ExactMesh {
     /// Its corners; faces name them by their places.
     pub corners: Vec<Corner>,

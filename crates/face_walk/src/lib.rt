@@ -4,8 +4,6 @@
 mod faces;
 mod lower;
 mod places;
-#[cfg(test)]
-mod tests;
 mod visits;
 mod walk;
 mod work;

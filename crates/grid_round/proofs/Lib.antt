@@ -1,4 +1,5 @@
 mod Lists
+mod Steps
 mod NearCorners
 mod Fan
 mod Fitting

@@ -8,8 +8,8 @@ use ix_place::Map;
 use spec_space::Vector;
 use std::alloc::{AllocError, Global};
 
-/// The greatest size of a coordinate, in grid steps.
-const MOST_STEPS: u128 = 1 << 20;
+/// The greatest size of a coordinate, 2^20 grid steps.
+const MOST_STEPS: u128 = 1_048_576;
 
 /// The corner of a point on the grid.
 fn corner(under: &Map, step: u32, point: &Vector) -> Vector

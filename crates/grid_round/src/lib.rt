@@ -11,8 +11,6 @@ mod halves;
 mod planes;
 mod shells;
 mod solids;
-#[cfg(test)]
-mod tests;
 mod triangles;
 
 pub use element::round_solid;

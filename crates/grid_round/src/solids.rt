@@ -1,19 +1,20 @@
-ghost use Rattle.std.specs.Prelude.{◌≡◌, ◌≤◌, map, IfOk};
-ghost use Rattle.spec_shape.specs.Shapes.{united};
+ghost use Rattle.std.specs.Prelude.{◌≤◌, map, Ok};
+ghost use Rattle.spec_solid.specs.Solids.{Combined};
+ghost use Rattle.spec_shape.specs.Shapes.{Faces, Half, united};
 ghost use Rattle.spec_grid.specs.Rounded.{round_shape};
 ghost use Rattle.solid_expr.specs.Views.{shape_of};
 ghost use Rattle.grid_solid.specs.Views as grid;
-ghost use Rattle.grid_solid.specs.Shapes.{Joined};
 ghost use Rattle.grid_round.specs.Views.{RoundsShape, RoundsParts};
 
 use crate::faults::RoundFault;
 use crate::halves::round_half;
 use crate::shells::round_shell;
 use grid_solid::GridNode;
-use solid_expr::Solid;
+use ix_place::Map;
+use solid_expr::{Face, Solid};
 use spec_solid::BoolOp;
 use sqlite_items::{Boxed, Items};
-use std::alloc::{AllocError, Global};
+use std::alloc::Global;
 
 /// What an operator makes of two solids.
 fn combined(
@@ -21,8 +22,8 @@ fn combined(
     operator: BoolOp,
     first: GridNode,
     second: GridNode,
-) -> Result<GridNode, AllocError>
-    ensures { IfOk result (λ n. grid.shape_of n ≡ Joined operator (grid.shape_of first) (grid.shape_of second)) }
+) -> Result<GridNode, RoundFault>
+    ensures { RoundsShape result (Ok (Combined operator (grid.solid_of first) (grid.solid_of second))) }
 {
     let first = Boxed::new(alloc, first)?;
     Ok(GridNode::Combined {
@@ -30,6 +31,30 @@ fn combined(
         first,
         second: Boxed::new(alloc, second)?,
     })
+}
+
+/// A primitive on the grid.
+fn primitive(
+    alloc: Global,
+    at: u64,
+    under: &Map,
+    step: u32,
+    faces: &[Face],
+) -> Result<GridNode, RoundFault>
+    requires low { 1 ≤ step }
+    requires high { step ≤ 10000 }
+    ensures { RoundsShape result (round_shape step (Faces at under.now faces.now)) }
+{
+    Ok(GridNode::Shell(round_shell(alloc, at, under, step, faces)?))
+}
+
+/// A half-space on the grid.
+fn half_space(at: u64, under: &Map, step: u32, agreement: bool) -> Result<GridNode, RoundFault>
+    requires low { 1 ≤ step }
+    requires high { step ≤ 10000 }
+    ensures { RoundsShape result (round_shape step (Half at under.now agreement)) }
+{
+    Ok(round_half(at, under, step, agreement)?)
 }
 
 /// A solid on the grid: first operands come before second ones.
@@ -40,10 +65,8 @@ pub fn round_shape(alloc: Global, solid: &Solid, step: u32) -> Result<GridNode, 
     ensures { RoundsShape result (round_shape step (shape_of solid.now)) }
 {
     match solid {
-        Solid::Faces { at, map, faces } => {
-            Ok(GridNode::Shell(round_shell(alloc, *at, map, step, faces)?))
-        }
-        Solid::Half { at, map, agreement } => Ok(round_half(*at, map, step, *agreement)?),
+        Solid::Faces { at, map, faces } => primitive(alloc, *at, map, step, faces),
+        Solid::Half { at, map, agreement } => half_space(*at, map, step, *agreement),
         Solid::Combined {
             operator,
             first,
@@ -52,7 +75,7 @@ pub fn round_shape(alloc: Global, solid: &Solid, step: u32) -> Result<GridNode, 
         } => {
             let first = round_shape(alloc, first.get(), step)?;
             let second = round_shape(alloc, second.get(), step)?;
-            Ok(combined(alloc, *operator, first, second)?)
+            combined(alloc, *operator, first, second)
         }
         Solid::Union { parts, .. } => Ok(GridNode::Union {
             parts: round_parts(alloc, parts.as_slice(), step)?,

@@ -4,7 +4,7 @@ use spec_solid::BoolOp;
 use sqlite_items::{Boxed, Items};
 
 /// A solid on the grid.
-#[derive(Debug, Drop)]
+#[derive(Drop)]
 pub enum GridNode {
     /// A primitive, by the triangles of its faces.
     Shell(GridShell),

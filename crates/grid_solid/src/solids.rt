@@ -6,7 +6,7 @@ use crate::nodes::GridNode;
 use sqlite_items::Items;
 
 /// An element on the grid: its items, of which each is bounded, and the items of its openings.
-#[derive(Debug, Drop)]
+#[derive(Drop)]
 pub struct GridSolid {
     pub items: Items<GridNode>,
     pub openings: Items<GridNode>,

@@ -1,7 +1,7 @@
 use spec_space::Vector;
 
 /// A triangle with its corners in grid steps. Its corners may lie on one line, or in one place.
-#[derive(Clone, Copy, Debug, PartialEq, Eq)]
+#[derive(Clone, Copy, PartialEq, Eq)]
 pub struct GridTriangle {
     pub a: Vector,
     pub b: Vector,

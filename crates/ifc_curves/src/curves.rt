@@ -125,9 +125,6 @@ fn points_of_segments(
     ensures { ReadsAs (λ points. points) result (segmented table.now at points.now) }
 {
     let members = members(table, at, 2)?;
-    if points.len() > 1_000_000_000 {
-        return Err(ItemFault::NoMemory);
-    }
     let numbers = segments(alloc, table, at, points.len(), members)?;
     Ok(points.all_numbered(alloc, &numbers)?)
 }

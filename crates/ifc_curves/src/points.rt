@@ -20,7 +20,7 @@ fn loop_of(points: Vec<Vector>) -> Option<Loop>
 }
 
 /// Points that are read, in nanometres; no coordinate has a size above 10^16. Contracts see them as the list of the points.
-#[derive(Debug, Drop)]
+#[derive(Drop)]
 pub struct Points {
     points: Vec<Vector>,
 }

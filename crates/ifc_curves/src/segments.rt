@@ -16,23 +16,24 @@ use step_text::bytes_at;
 /// 1, for what is counted in units of 10^-12.
 const ONE: i128 = 1_000_000_000_000;
 
-/// The whole number that so many units of 10^-12 are, from 1 to a count.
+/// The greatest number of a file.
+const MOST: usize = 1_000_000_000;
+
+/// The whole number that so many units of 10^-12 are, from 1 to a count and at most 10^9.
 fn index_of(at: u64, count: usize, units: i128) -> Result<usize, Refusal>
-    requires { count ≤ 10 ^ 9 }
     ensures { result ≡ index_of at count units }
 {
     if units < ONE {
         return Err(Refusal::BadAttribute { at, position: 2 });
     }
-    if units > count as i128 * ONE {
+    if units > count.min(MOST) as i128 * ONE {
         return Err(Refusal::BadAttribute { at, position: 2 });
     }
     Ok((units.unsigned_abs() / 1_000_000_000_000) as usize)
 }
 
-/// The whole number that a decimal text is, from 1 to a count.
+/// The whole number that a decimal text is, from 1 to a count and at most 10^9.
 fn index_in(at: u64, count: usize, text: &[u8]) -> Result<usize, Refusal>
-    requires { count ≤ 10 ^ 9 }
     ensures { result ≡ index_in at count text.now }
 {
     match Decimal::read(text) {
@@ -43,7 +44,6 @@ fn index_in(at: u64, count: usize, text: &[u8]) -> Result<usize, Refusal>
 
 /// An index of a segment, counted from 1.
 fn index(table: &Table<'_>, at: u64, count: usize, p: &Param) -> Result<usize, Refusal>
-    requires { count ≤ 10 ^ 9 }
     ensures { result ≡ index table.now at count p.now }
 {
     match innermost(p) {
@@ -60,7 +60,6 @@ fn indices(
     count: usize,
     members: &[Param],
 ) -> Result<Vec<usize>, ItemFault>
-    requires { count ≤ 10 ^ 9 }
     ensures { ReadsList result (each (index table.now at count) members.now) }
 {
     let mut indices = Vec::new(alloc);
@@ -77,7 +76,7 @@ fn push(indices: &mut Vec<usize>, index: usize) -> Result<(), AllocError>
     Ok(())
 }
 
-/// The indices of an IfcLineIndex, of which there must be two.
+/// The indices of an IfcLineIndex, of which there must be at least two.
 fn line_index(
     alloc: Global,
     table: &Table<'_>,
@@ -85,7 +84,6 @@ fn line_index(
     count: usize,
     p: &Param,
 ) -> Result<Vec<usize>, ItemFault>
-    requires { count ≤ 10 ^ 9 }
     ensures { ReadsList result (line_index table.now at count p.now) }
 {
     match param_list(at, 2, p) {
@@ -104,7 +102,6 @@ fn segment_named(
     word: &[u8],
     p: &Param,
 ) -> Result<Vec<usize>, ItemFault>
-    requires { count ≤ 10 ^ 9 }
     ensures { ReadsList result (segment_named table.now at count word.now p.now) }
 {
     if word.eq_ignore_ascii_case(b"IFCARCINDEX") {
@@ -124,7 +121,6 @@ fn segment(
     count: usize,
     p: &Param,
 ) -> Result<Vec<usize>, ItemFault>
-    requires { count ≤ 10 ^ 9 }
     ensures { ReadsList result (segment table.now at count p.now) }
 {
     match p {
@@ -202,7 +198,6 @@ pub fn segments(
     count: usize,
     members: &[Param],
 ) -> Result<Vec<usize>, ItemFault>
-    requires { count ≤ 10 ^ 9 }
     ensures { ReadsList result (segments_after table.now at count [] members.now) }
 {
     let mut indices = Vec::new(alloc);

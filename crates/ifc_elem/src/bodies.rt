@@ -1,10 +1,11 @@
 ghost use Rattle.std.specs.Prelude.{◌≡◌, ◌≤◌, All, Some, Ok, IfOk, IfSome};
 ghost use Rattle.spec_table.specs.Sections.{IsSimple};
 ghost use Rattle.spec_shape.specs.Shapes.{ElementShape, element_count};
-ghost use Rattle.spec_geometry.specs.Elements.{items, opening_items, openings, element_body};
+ghost use Rattle.spec_entity.specs.Elements.{representation};
+ghost use Rattle.spec_geometry.specs.Elements.{items, opening_items, openings, shape_of_body, element_body};
 ghost use Rattle.solid_expr.specs.Views.{element_of};
 ghost use Rattle.ifc_numbers.specs.Measures.{file_of};
-ghost use Rattle.ifc_elem.specs.Views.{ReadsItems, ReadsBody};
+ghost use Rattle.ifc_elem.specs.Views.{ReadsItems, ReadsBody, WantsMemoryOnlyFor};
 ghost use Rattle.ifc_elem.specs.Voiding.{IsIndexOf};
 
 use crate::openings::Openings;
@@ -95,6 +96,35 @@ fn opening_solids(
     Ok((found, reached))
 }
 
+/// The solids of an element that has a representation with these items, and of its openings.
+fn body_of(
+    alloc: Global,
+    table: &Table<'_>,
+    g: &GeomIn,
+    openings: &Openings,
+    number: u64,
+    at: u64,
+    members: &[Param],
+) -> Result<Option<ElementSolid>, ItemFault>
+    requires simple { IsSimple table.now number }
+    requires openings { IsIndexOf openings.now table.now }
+    ensures value { ReadsBody result (shape_of_body (file_of table.now g.now) number (Some (at, members.now))) }
+    ensures number { IfOk result (λ body. IfSome body (λ element. element.number ≡ number)) }
+{
+    let chain = read_chain(alloc, table, g, number)?;
+    let frame = world_frame(&chain)?;
+    let map = Map::of_frame(&Frame::identity());
+    let (items, reached) = items(alloc, table, g, at, members, &map, 0)?;
+    let relations = openings.of_element(number);
+    let (openings, _) = opening_solids(alloc, table, g, &chain, relations, reached)?;
+    Ok(Some(ElementSolid {
+        number,
+        items,
+        openings,
+        frame,
+    }))
+}
+
 /// The solids of an element and of its openings.
 fn read_body(
     alloc: Global,
@@ -107,22 +137,10 @@ fn read_body(
     requires openings { IsIndexOf openings.now table.now }
     ensures value { ReadsBody result (element_body (file_of table.now g.now) number) }
     ensures number { IfOk result (λ body. IfSome body (λ element. element.number ≡ number)) }
+    ensures memory { WantsMemoryOnlyFor result (representation table.now number) }
 {
     match representation(table, number)? {
-        Some((at, members)) => {
-            let chain = read_chain(alloc, table, g, number)?;
-            let frame = world_frame(&chain)?;
-            let map = Map::of_frame(&Frame::identity());
-            let (items, reached) = items(alloc, table, g, at, members, &map, 0)?;
-            let relations = openings.of_element(number);
-            let (openings, _) = opening_solids(alloc, table, g, &chain, relations, reached)?;
-            Ok(Some(ElementSolid {
-                number,
-                items,
-                openings,
-                frame,
-            }))
-        }
+        Some((at, members)) => body_of(alloc, table, g, openings, number, at, members),
         None => Ok(None),
     }
 }
@@ -133,7 +151,8 @@ fn read_body(
 /// # Errors
 ///
 /// The first refusal in the order of reading (the representation, the chain of placements and its frame, the items, then the
-/// openings in file order, each with its representation, its chain and its items), or `NoMemory`.
+/// openings in file order, each with its representation, its chain and its items). `NoMemory` only for an element with a
+/// representation that is read.
 pub fn element_body(
     alloc: Global,
     table: &Table<'_>,
@@ -147,6 +166,7 @@ pub fn element_body(
     ensures law { (element : ElementShape) → element_body (file_of table.now g.now) number ≡ Ok (Some element) → element_count element ≤ 4096 }
     ensures few { IfOk result (λ body. IfSome body (λ element. element_count (element_of element) ≤ 4096)) }
     ensures number { IfOk result (λ body. IfSome body (λ element. element.number ≡ number)) }
+    ensures memory { WantsMemoryOnlyFor result (representation table.now number) }
 {
     read_body(alloc, table, g, openings, number)
 }

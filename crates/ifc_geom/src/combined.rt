@@ -7,6 +7,7 @@ ghost use Rattle.ifc_numbers.specs.Measures.{file_of};
 ghost use Rattle.ifc_geom.specs.Views.{ReadsSolid, ReadsSolids};
 
 use crate::half_spaces::{bounded_half_space, half_space};
+use crate::joined::joined;
 use crate::primitives::{block, brep, extruded_area_solid};
 use entity_reader::{has_kind, is_one_of, member_instance, members, named_instance, refusal_of};
 use ifc_axes::{GeomIn, ItemFault, named_axes, operator as axes_operator, wanted_instance, within};
@@ -16,7 +17,7 @@ use solid_expr::Solid;
 use spec_refusal::Refusal;
 use spec_solid::BoolOp;
 use spec_step::Param;
-use sqlite_items::{Boxed, Items};
+use sqlite_items::Items;
 use std::alloc::Global;
 use step_table::Table;
 
@@ -119,6 +120,28 @@ fn solid_by(
     Err(ItemFault::Refused(Refusal::Unsupported { at }))
 }
 
+/// The solid that a wanted attribute names, and the count with it.
+#[cycle(solid)]
+fn operand(
+    alloc: Global,
+    table: &Table<'_>,
+    g: &GeomIn,
+    at: u64,
+    position: usize,
+    map: &Map,
+    deeper: u32,
+    count: u128,
+) -> Result<(Solid, u128), ItemFault>
+    requires simple { IsSimple table.now at }
+    requires counted { 1 ≤ position }
+    requires count { count ≤ 4096 }
+    ensures value { ReadsSolid result (operand (file_of table.now g.now) (solid deeper (file_of table.now g.now)) at position map.now count) }
+    ensures few { IfOk result (λ read. read.1 ≤ 4096) }
+{
+    let number = wanted_instance(table, at, position)?;
+    solid(alloc, table, g, number, map, deeper, count)
+}
+
 /// Two solids combined (IfcBooleanResult, IfcBooleanClippingResult).
 #[cycle(solid)]
 fn boolean_result(
@@ -136,21 +159,9 @@ fn boolean_result(
     ensures few { IfOk result (λ read. read.1 ≤ 4096) }
 {
     let operator = operator(table, at)?;
-    let first_at = wanted_instance(table, at, 2)?;
-    let (first, reached) = solid(alloc, table, g, first_at, map, deeper, count)?;
-    let second_at = wanted_instance(table, at, 3)?;
-    let (second, reached) = solid(alloc, table, g, second_at, map, deeper, reached)?;
-    let first = Boxed::new(alloc, first)?;
-    let second = Boxed::new(alloc, second)?;
-    Ok((
-        Solid::Combined {
-            at,
-            operator,
-            first,
-            second,
-        },
-        reached,
-    ))
+    let (first, reached) = operand(alloc, table, g, at, 2, map, deeper, count)?;
+    let (second, reached) = operand(alloc, table, g, at, 3, map, deeper, reached)?;
+    Ok((joined(alloc, at, operator, first, second)?, reached))
 }
 
 /// A tree of solids (IfcCsgSolid): a union whose one part is its root.
@@ -169,8 +180,7 @@ fn csg_solid(
     ensures value { ReadsSolid result (csg_solid (file_of table.now g.now) (solid deeper (file_of table.now g.now)) at map.now count) }
     ensures few { IfOk result (λ read. read.1 ≤ 4096) }
 {
-    let root_at = wanted_instance(table, at, 1)?;
-    let (root, reached) = solid(alloc, table, g, root_at, map, deeper, count)?;
+    let (root, reached) = operand(alloc, table, g, at, 1, map, deeper, count)?;
     let mut parts = Items::new(alloc);
     parts.push(root)?;
     Ok((Solid::Union { at, parts }, reached))

@@ -8,6 +8,7 @@ ghost use Rattle.solid_expr.specs.Views.{shape_of};
 ghost use Rattle.ifc_numbers.specs.Measures.{IsGrid, file_of};
 ghost use Rattle.ifc_geom.specs.Views.{plain_solid, ReadsSolid};
 
+use crate::joined::joined;
 use entity_reader::named_instance;
 use ifc_axes::{GeomIn, ItemFault, boolean, map_within, named_axes, within};
 use ifc_curves::{count_loop, count_with, named_curve, one_loop};
@@ -18,7 +19,6 @@ use solid_expr::{Solid, lifted, prism_faces};
 use spec_refusal::Refusal;
 use spec_solid::BoolOp;
 use spec_space::Vector;
-use sqlite_items::Boxed;
 use std::alloc::{AllocError, Global};
 use step_table::Table;
 
@@ -131,12 +131,7 @@ pub fn bounded_half_space(
     let reached = count_loop(reached, &boundary)?;
     let column = column(alloc, at, g.step, &placed, boundary)?;
     Ok((
-        Solid::Combined {
-            at,
-            operator: BoolOp::Intersection,
-            first: Boxed::new(alloc, half)?,
-            second: Boxed::new(alloc, column)?,
-        },
+        joined(alloc, at, BoolOp::Intersection, half, column)?,
         reached,
     ))
 }

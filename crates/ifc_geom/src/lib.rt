@@ -3,6 +3,7 @@
 
 mod combined;
 mod half_spaces;
+mod joined;
 mod primitives;
 
 pub use combined::read_solid;

@@ -3,7 +3,5 @@
 
 mod kind;
 mod table;
-#[cfg(test)]
-mod tests;
 
 pub use kind::{Kind, element_kinds, is_element};

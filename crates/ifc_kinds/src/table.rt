@@ -7,7 +7,7 @@ ghost use Rattle.ifc_kinds.specs.Rows.{plain, kind_with};
 use crate::kind::Kind;
 
 /// What the entities of a part of the table are.
-#[derive(Clone, Copy, Debug, PartialEq, Eq)]
+#[derive(Clone, Copy, PartialEq, Eq)]
 pub enum Group {
     /// a building element, which is printed
     Element,

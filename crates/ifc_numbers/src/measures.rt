@@ -3,7 +3,7 @@ use std::marker::Model;
 
 /// How the geometry of a file is read: its unit of length, and the step of the grid on which its solids are wanted, from 1 to
 /// 10,000 micrometres. Contracts see both as measures.
-#[derive(Clone, Copy, Debug, PartialEq, Eq)]
+#[derive(Clone, Copy)]
 pub struct GeomIn {
     /// The unit of length.
     pub unit: LengthUnit,

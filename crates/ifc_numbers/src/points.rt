@@ -1,9 +1,11 @@
-ghost use Rattle.std.specs.Prelude.{◌≡◌, ◌≤◌, ◌^◌, unsigned_abs, IfOk, Ok};
+ghost use Rattle.std.specs.Prelude.{◌≡◌, ◌≤◌, ◌^◌, ◌∷◌, [], unsigned_abs, IfOk, Ok};
 ghost use Rattle.spec_place.specs.Vectors.{IsWithin};
 ghost use Rattle.spec_table.specs.Sections.{IsSimple};
 ghost use Rattle.spec_refusal.specs.Reads.{next};
+ghost use Rattle.spec_entity.specs.Reads.{each};
 ghost use Rattle.spec_entity.specs.Points.{ratio};
 ghost use Rattle.spec_place.specs.Directions as directions;
+ghost use Rattle.spec_geometry.specs.Files as files;
 ghost use Rattle.spec_geometry.specs.Files.{placed};
 ghost use Rattle.spec_geometry.specs.Points as points;
 ghost use Rattle.ifc_numbers.specs.Measures.{file_of};
@@ -19,6 +21,43 @@ use spec_space::Vector;
 use spec_step::Param;
 use step_table::Table;
 
+/// The point of two lengths, in nanometres: its third coordinate is 0.
+fn point_of_two(
+    table: &Table<'_>,
+    g: &GeomIn,
+    at: u64,
+    x: &Param,
+    y: &Param,
+) -> Result<Vector, Refusal>
+    ensures value { result ≡ next (each (files.length (file_of table.now g.now) at 1) (x.now ∷ y.now ∷ [])) (λ xs. Ok (points.in_space xs)) }
+    ensures within { IfOk result (IsWithin (10 ^ 16)) }
+{
+    Ok(Vector {
+        x: length(table, g, at, 1, x)?,
+        y: length(table, g, at, 1, y)?,
+        z: 0,
+    })
+}
+
+/// The point of three lengths, in nanometres.
+fn point_of_three(
+    table: &Table<'_>,
+    g: &GeomIn,
+    at: u64,
+    x: &Param,
+    y: &Param,
+    z: &Param,
+) -> Result<Vector, Refusal>
+    ensures value { result ≡ next (each (files.length (file_of table.now g.now) at 1) (x.now ∷ y.now ∷ z.now ∷ [])) (λ xs. Ok (points.in_space xs)) }
+    ensures within { IfOk result (IsWithin (10 ^ 16)) }
+{
+    Ok(Vector {
+        x: length(table, g, at, 1, x)?,
+        y: length(table, g, at, 1, y)?,
+        z: length(table, g, at, 1, z)?,
+    })
+}
+
 /// A point (IfcCartesianPoint) in nanometres; a third coordinate that is missing is 0.
 pub fn point(table: &Table<'_>, g: &GeomIn, at: u64) -> Result<Vector, Refusal>
     requires { IsSimple table.now at }
@@ -26,16 +65,8 @@ pub fn point(table: &Table<'_>, g: &GeomIn, at: u64) -> Result<Vector, Refusal>
     ensures within { IfOk result (IsWithin (10 ^ 16)) }
 {
     match members(table, at, 1)? {
-        [x, y] => Ok(Vector {
-            x: length(table, g, at, 1, x)?,
-            y: length(table, g, at, 1, y)?,
-            z: 0,
-        }),
-        [x, y, z] => Ok(Vector {
-            x: length(table, g, at, 1, x)?,
-            y: length(table, g, at, 1, y)?,
-            z: length(table, g, at, 1, z)?,
-        }),
+        [x, y] => point_of_two(table, g, at, x, y),
+        [x, y, z] => point_of_three(table, g, at, x, y, z),
         _ => Err(Refusal::BadAttribute { at, position: 1 }),
     }
 }
@@ -82,6 +113,36 @@ fn ratio(table: &Table<'_>, at: u64, p: &Param) -> Result<i128, Refusal>
     }
 }
 
+/// Two ratios of a direction in units of 10^-12; the third one is 0.
+fn two_ratios(table: &Table<'_>, at: u64, x: &Param, y: &Param) -> Result<Vector, Refusal>
+    ensures value { result ≡ next (each (ratio table.now at) (x.now ∷ y.now ∷ [])) (λ rs. Ok (points.in_space rs)) }
+    ensures within { IfOk result (IsWithin (10 ^ 18)) }
+{
+    Ok(Vector {
+        x: ratio(table, at, x)?,
+        y: ratio(table, at, y)?,
+        z: 0,
+    })
+}
+
+/// Three ratios of a direction in units of 10^-12.
+fn three_ratios(
+    table: &Table<'_>,
+    at: u64,
+    x: &Param,
+    y: &Param,
+    z: &Param,
+) -> Result<Vector, Refusal>
+    ensures value { result ≡ next (each (ratio table.now at) (x.now ∷ y.now ∷ z.now ∷ [])) (λ rs. Ok (points.in_space rs)) }
+    ensures within { IfOk result (IsWithin (10 ^ 18)) }
+{
+    Ok(Vector {
+        x: ratio(table, at, x)?,
+        y: ratio(table, at, y)?,
+        z: ratio(table, at, z)?,
+    })
+}
+
 /// The ratios of a direction (IfcDirection) in units of 10^-12; a third one that is missing is 0.
 fn ratios(table: &Table<'_>, at: u64) -> Result<Vector, Refusal>
     requires { IsSimple table.now at }
@@ -89,16 +150,8 @@ fn ratios(table: &Table<'_>, at: u64) -> Result<Vector, Refusal>
     ensures within { IfOk result (IsWithin (10 ^ 18)) }
 {
     match members(table, at, 1)? {
-        [x, y] => Ok(Vector {
-            x: ratio(table, at, x)?,
-            y: ratio(table, at, y)?,
-            z: 0,
-        }),
-        [x, y, z] => Ok(Vector {
-            x: ratio(table, at, x)?,
-            y: ratio(table, at, y)?,
-            z: ratio(table, at, z)?,
-        }),
+        [x, y] => two_ratios(table, at, x, y),
+        [x, y, z] => three_ratios(table, at, x, y, z),
         _ => Err(Refusal::BadAttribute { at, position: 1 }),
     }
 }

@@ -74,34 +74,36 @@ fault_is_not_done : (status : Status) → status ≡ WriteFault → is_done stat
 fault_is_not_done status e done = let has : is_done WriteFault ≡ true = subst (λ (s : Status). is_done s ≡ true) e done in cc
 
 -- a status of what is done is the one that is due
-due_of : (due : Status) (puts : Bool) (page report : List ℕ) (out out' rep rep' : Known) (result : Status)
-    → IsDelivered due puts page report out out' rep rep' result → is_done result ≡ true → is_done due ≡ true
-due_of due puts page report out out' rep rep' result (inl (inl h)) done = subst (λ (s : Status). is_done s ≡ true) h.status done
-due_of due puts page report out out' rep rep' result (inl (inr h)) done = absurd (fault_is_not_done result h.status done)
-due_of due puts page report out out' rep rep' result (inr h) done = absurd (fault_is_not_done result h.status done)
+due_of : (due : Status) (puts : Bool) (page report : List ℕ) (out out' rep rep' : Known) (same_rep : Type 0) (result : Status)
+    → IsDelivered due puts page report out out' rep rep' same_rep result → is_done result ≡ true → is_done due ≡ true
+due_of due puts page report out out' rep rep' same_rep result (inl (inl h)) done = subst (λ (s : Status). is_done s ≡ true) h.status done
+due_of due puts page report out out' rep rep' same_rep result (inl (inr h)) done = absurd (fault_is_not_done result h.status done)
+due_of due puts page report out out' rep rep' same_rep result (inr h) done = absurd (fault_is_not_done result h.status done)
 
 -- what a run makes is the page of its task
-pub made_of : (words : List (List ℕ)) (writers : List Writer) (src src' : Known) (page : List ℕ) (out out' rep rep' : Known) (status : Status)
-    → IsRun words writers src src' page out out' rep rep' status → is_done status ≡ true → IfSome (task_of words writers) (λ task. IsMadeBy task src.bytes page)
-made_of words writers src src' page out out' rep rep' status run done =
+pub made_of : (words : List (List ℕ)) (writers : List Writer) (src src' : Known) (page : List ℕ) (out out' : Known) (same_out : Type 0) (rep rep' : Known) (same_rep : Type 0) (status : Status)
+    → IsRun words writers src src' page out out' same_out rep rep' same_rep status → is_done status ≡ true → IfSome (task_of words writers) (λ task. IsMadeBy task src.bytes page)
+made_of words writers src src' page out out' same_out rep rep' same_rep status run done =
     made_for (task_of words writers) src src' page run.found run.cause
-    (due_of (status_of run.found) (is_put run.found) page (report_of run.found) out out' rep rep' status run.delivery done)
+    (due_of (status_of run.found) (is_put run.found) page (report_of run.found) out out' rep rep' same_rep status run.delivery done)
 
 -- an answer that was delivered is a run
-pub run_of : (words : List (List ℕ)) (writers : List Writer) (had left : Option (List ℕ)) (faults faults' : ℕ) (page put : List ℕ) (out out' rep rep' : Known) (answer : Answer) (status : Status) (f : Finding)
+pub run_of : (words : List (List ℕ)) (writers : List Writer) (had left : Option (List ℕ)) (faults faults' : ℕ) (page put : List ℕ) (out out' : Known) (same_out : Type 0) (rep rep' : Known) (same_rep : Type 0) (answer : Answer) (status : Status) (f : Finding)
     → Tells answer f → IsFound words writers (known had faults) (known left faults') page f → put ≡ page
-    → IsDelivered answer.status answer.puts put (text_of answer.report) out out' rep rep' status
-    → IsRun words writers (known had faults) (known left faults') page out out' rep rep' status
-run_of words writers had left faults faults' page put out out' rep rep' answer status f tells h same_page delivered = record {
+    → IsDelivered answer.status answer.puts put (text_of answer.report) out out' rep rep' same_rep status
+    → (answer.puts ≡ false → same_out)
+    → IsRun words writers (known had faults) (known left faults') page out out' same_out rep rep' same_rep status
+run_of words writers had left faults faults' page put out out' same_out rep rep' same_rep answer status f tells h same_page delivered kept = record {
   found = f;
   cause = h;
   answers = answers_for (task_of words writers) had faults (known left faults') page f h;
   refuses = refuses_for (task_of words writers) had faults (known left faults') page f h;
   delivery =
-      subst (λ due. IsDelivered due (is_put f) page (report_of f) out out' rep rep' status) tells.status
-      (subst (λ puts. IsDelivered answer.status puts page (report_of f) out out' rep rep' status) tells.put
-      (subst (λ (t : List ℕ). IsDelivered answer.status answer.puts page t out out' rep rep' status) tells.report
-      (subst (λ (t : List ℕ). IsDelivered answer.status answer.puts t (text_of answer.report) out out' rep rep' status) same_page delivered)));
+      subst (λ due. IsDelivered due (is_put f) page (report_of f) out out' rep rep' same_rep status) tells.status
+      (subst (λ puts. IsDelivered answer.status puts page (report_of f) out out' rep rep' same_rep status) tells.put
+      (subst (λ (t : List ℕ). IsDelivered answer.status answer.puts page t out out' rep rep' same_rep status) tells.report
+      (subst (λ (t : List ℕ). IsDelivered answer.status answer.puts t (text_of answer.report) out out' rep rep' same_rep status) same_page delivered)));
+  unput = λ e. kept (tells.put ∙ e);
 }
 
 -- What is put of it.
@@ -179,30 +181,30 @@ pub unput_of : (words : List (List ℕ)) (writers : List Writer) (src src' : Kno
     → Tells answer f → IsFound words writers src src' page f → puts_page (task_of words writers) ≡ false → answer.puts ≡ false
 unput_of words writers src src' page answer f tells h e = tells.put ∙ unput_for (task_of words writers) src src' page f h e
 
-put_whole : (due : Status) (puts : Bool) (page report : List ℕ) (out out' rep rep' : Known) (result : Status)
-    → IsDelivered due puts page report out out' rep rep' result → is_done result ≡ true → Appends out.bytes out'.bytes (page_if puts page)
-put_whole due puts page report out out' rep rep' result (inl (inl h)) done = h.page_put.bytes
-put_whole due puts page report out out' rep rep' result (inl (inr h)) done = absurd (fault_is_not_done result h.status done)
-put_whole due puts page report out out' rep rep' result (inr h) done = absurd (fault_is_not_done result h.status done)
+put_whole : (due : Status) (puts : Bool) (page report : List ℕ) (out out' rep rep' : Known) (same_rep : Type 0) (result : Status)
+    → IsDelivered due puts page report out out' rep rep' same_rep result → is_done result ≡ true → Appends out.bytes out'.bytes (page_if puts page)
+put_whole due puts page report out out' rep rep' same_rep result (inl (inl h)) done = h.page_put.bytes
+put_whole due puts page report out out' rep rep' same_rep result (inl (inr h)) done = absurd (fault_is_not_done result h.status done)
+put_whole due puts page report out out' rep rep' same_rep result (inr h) done = absurd (fault_is_not_done result h.status done)
 
 -- the page is put whole where the task puts it
-pub whole_of : (words : List (List ℕ)) (writers : List Writer) (src src' : Known) (page : List ℕ) (out out' rep rep' : Known) (status : Status)
-    → IsRun words writers src src' page out out' rep rep' status → is_done status ≡ true
+pub whole_of : (words : List (List ℕ)) (writers : List Writer) (src src' : Known) (page : List ℕ) (out out' : Known) (same_out : Type 0) (rep rep' : Known) (same_rep : Type 0) (status : Status)
+    → IsRun words writers src src' page out out' same_out rep rep' same_rep status → is_done status ≡ true
     → Appends out.bytes out'.bytes (page_if (puts_page (task_of words writers)) page)
-whole_of words writers src src' page out out' rep rep' status run done =
+whole_of words writers src src' page out out' same_out rep rep' same_rep status run done =
     subst (λ puts. Appends out.bytes out'.bytes (page_if puts page))
     (put_for (task_of words writers) src src' page run.found run.cause
-    (due_of (status_of run.found) (is_put run.found) page (report_of run.found) out out' rep rep' status run.delivery done))
-    (put_whole (status_of run.found) (is_put run.found) page (report_of run.found) out out' rep rep' status run.delivery done)
+    (due_of (status_of run.found) (is_put run.found) page (report_of run.found) out out' rep rep' same_rep status run.delivery done))
+    (put_whole (status_of run.found) (is_put run.found) page (report_of run.found) out out' rep rep' same_rep status run.delivery done)
 
 -- a status of what is not done, and of no fault of writing, is the one that is due
-undue_of : (due : Status) (puts : Bool) (page report : List ℕ) (out out' rep rep' : Known) (result : Status)
-    → IsDelivered due puts page report out out' rep rep' result → is_done result ≡ false → (result ≡ WriteFault → ⊥) → is_done due ≡ false
-undue_of due puts page report out out' rep rep' result (inl (inl h)) undone fine = subst (λ (s : Status). is_done s ≡ false) h.status undone
-undue_of due puts page report out out' rep rep' result (inl (inr h)) undone fine = absurd (fine h.status)
-undue_of due puts page report out out' rep rep' result (inr h) undone fine = absurd (fine h.status)
+undue_of : (due : Status) (puts : Bool) (page report : List ℕ) (out out' rep rep' : Known) (same_rep : Type 0) (result : Status)
+    → IsDelivered due puts page report out out' rep rep' same_rep result → is_done result ≡ false → (result ≡ WriteFault → ⊥) → is_done due ≡ false
+undue_of due puts page report out out' rep rep' same_rep result (inl (inl h)) undone fine = subst (λ (s : Status). is_done s ≡ false) h.status undone
+undue_of due puts page report out out' rep rep' same_rep result (inl (inr h)) undone fine = absurd (fine h.status)
+undue_of due puts page report out out' rep rep' same_rep result (inr h) undone fine = absurd (fine h.status)
 
-pub refused_unput : (report page : List ℕ) (out out' rep rep' : Known) (answer : Answer) (status : Status) (f : Finding)
-    → Tells answer f → IsDelivered answer.status answer.puts page report out out' rep rep' status → is_done status ≡ false → (status ≡ WriteFault → ⊥) → answer.puts ≡ false
-refused_unput report page out out' rep rep' answer status f tells delivered undone fine =
-    undone_unput answer f tells (undue_of answer.status answer.puts page report out out' rep rep' status delivered undone fine)
+pub refused_unput : (report page : List ℕ) (out out' rep rep' : Known) (same_rep : Type 0) (answer : Answer) (status : Status) (f : Finding)
+    → Tells answer f → IsDelivered answer.status answer.puts page report out out' rep rep' same_rep status → is_done status ≡ false → (status ≡ WriteFault → ⊥) → answer.puts ≡ false
+refused_unput report page out out' rep rep' same_rep answer status f tells delivered undone fine =
+    undone_unput answer f tells (undue_of answer.status answer.puts page report out out' rep rep' same_rep status delivered undone fine)

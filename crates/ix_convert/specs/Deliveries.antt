@@ -26,12 +26,12 @@ pub record IsWhole (due : Status) (puts : Bool) (page report : List ℕ) (out ou
   pub page_put : PutsWhole out out' (page_if puts page)
   pub reported : PutsWhole rep rep' report
 
--- the output failed in the page, and nothing was reported
-pub record StopsInPage (puts : Bool) (page : List ℕ) (out out' rep rep' : Known) (result : Status) : Type 0 where
+-- the output failed in the page, and nothing was reported: `same_rep` says that the report is as it was, whatever it tells
+pub record StopsInPage (puts : Bool) (page : List ℕ) (out out' : Known) (same_rep : Type 0) (result : Status) : Type 0 where
   pub status : result ≡ WriteFault
   pub paged : puts ≡ true
   pub page_cut : PutsFront out out' page
-  pub unreported : rep' ≡ rep
+  pub unreported : same_rep
 
 -- the report failed; the page is put whole, if it is put
 pub record StopsInReport (puts : Bool) (page report : List ℕ) (out out' rep rep' : Known) (result : Status) : Type 0 where
@@ -40,7 +40,7 @@ pub record StopsInReport (puts : Bool) (page report : List ℕ) (out out' rep re
   pub report_cut : PutsFront rep rep' report
 
 -- the page is put to the output, if it is to be put, and then the report
-abbrev pub IsDelivered : Status → Bool → List ℕ → List ℕ → Known → Known → Known → Known → Status → Type 0
-IsDelivered due puts page report out out' rep rep' result =
-    (IsWhole due puts page report out out' rep rep' result ⊎ StopsInPage puts page out out' rep rep' result)
+abbrev pub IsDelivered : Status → Bool → List ℕ → List ℕ → Known → Known → Known → Known → Type 0 → Status → Type 0
+IsDelivered due puts page report out out' rep rep' same_rep result =
+    (IsWhole due puts page report out out' rep rep' result ⊎ StopsInPage puts page out out' same_rep result)
     ⊎ StopsInReport puts page report out out' rep rep' result

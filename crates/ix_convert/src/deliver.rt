@@ -35,7 +35,7 @@ fn put_page<O: Sink>(puts: bool, page: &[u8], out: &mut O) -> Result<(), WriteFa
 pub fn deliver<O: Sink, R: Sink>(answer: &Answer, page: &[u8], out: &mut O, rep: &mut R) -> Status
     ensures delivered { IsDelivered answer.now.status answer.now.puts page.now (text_of answer.now.report)
         (known (O.held out.old) (O.faults out.old)) (known (O.held out.new) (O.faults out.new))
-        (known (R.held rep.old) (R.faults rep.old)) (known (R.held rep.new) (R.faults rep.new)) result }
+        (known (R.held rep.old) (R.faults rep.old)) (known (R.held rep.new) (R.faults rep.new)) (rep.new ≡ rep.old) result }
     ensures kept { answer.now.puts ≡ false → out.new ≡ out.old }
 {
     if put_page(answer.puts, page, out).is_err() {

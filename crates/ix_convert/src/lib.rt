@@ -1,4 +1,4 @@
-//! Jobs, and the call that runs them.
+//! Jobs, the call that runs them, and the start of the program.
 #![tactic(auto)]
 
 mod answer;
@@ -11,10 +11,11 @@ mod generating;
 mod open;
 mod report;
 mod run;
+mod starting;
 mod status;
-#[cfg(test)]
-mod tests;
+mod words;
 
 pub use ix_words::Job;
 pub use run::convert_run;
+pub use starting::start;
 pub use status::Status;

@@ -50,8 +50,8 @@ pub fn convert_run<S: Source, O: Sink, R: Sink>(
     ensures run { IsRun (map string_bytes words.now) (map (λ w. known_writer (called w) (taken w) (text_for w)) writers.items)
         (known (S.left src.old) (S.faults src.old)) (known (S.left src.new) (S.faults src.new))
         page.new.items
-        (known (O.held out.old) (O.faults out.old)) (known (O.held out.new) (O.faults out.new))
-        (known (R.held rep.old) (R.faults rep.old)) (known (R.held rep.new) (R.faults rep.new))
+        (known (O.held out.old) (O.faults out.old)) (known (O.held out.new) (O.faults out.new)) (out.new ≡ out.old)
+        (known (R.held rep.old) (R.faults rep.old)) (known (R.held rep.new) (R.faults rep.new)) (rep.new ≡ rep.old)
         result }
 
     // The page is, under `convert`, that of one item for each wanted element of the file, with all that is promised of it, in

@@ -28,22 +28,3 @@ fn gcd_of_sizes(a: u128, b: u128) -> u128
     }
     x
 }
-
-#[cfg(test)]
-mod tests {
-    use super::*;
-
-    #[test]
-    fn finds_divisors(rt: HostRuntime) {
-        for (a, b, divisor) in [
-            (0, 0, 0),
-            (0, -5, 5),
-            (12, 18, 6),
-            (-12, 18, 6),
-            (1, 7, 1),
-            (1 << 100, 1 << 90, 1 << 90),
-        ] {
-            assert_eq!(rt; gcd(a, b), divisor, "at {a} and {b}");
-        }
-    }
-}

@@ -14,23 +14,3 @@ pub fn round_div(a: i128, b: i128) -> i128
 {
     (2 * a + b).div_euclid(2 * b)
 }
-
-#[cfg(test)]
-mod tests {
-    use super::*;
-
-    #[test]
-    fn rounds_a_half_up(rt: HostRuntime) {
-        for (a, b, nearest) in [
-            (1, 2, 1),
-            (-1, 2, 0),
-            (-3, 2, -1),
-            (3, 2, 2),
-            (7, 3, 2),
-            (-7, 3, -2),
-            (5, 1, 5),
-        ] {
-            assert_eq!(rt; round_div(a, b), nearest, "at {a} / {b}");
-        }
-    }
-}

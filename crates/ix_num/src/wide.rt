@@ -92,35 +92,3 @@ impl Wide {
         joined(self.high, self.low)
     }
 }
-
-#[cfg(test)]
-mod tests {
-    use super::*;
-
-    const MOST: i128 = i128::MAX;
-
-    const LEAST: i128 = i128::MIN;
-
-    fn total_of(numbers: &[i128]) -> Option<i128> {
-        let mut sum = Wide::zero();
-        for v in numbers {
-            sum.add(*v);
-        }
-        sum.total()
-    }
-
-    #[test]
-    fn sums_pass_128_bits(rt: HostRuntime) {
-        let cases: [(&[i128], Option<i128>); 6] = [
-            (&[MOST, MOST, -MOST, -MOST], Some(0)),
-            (&[MOST, 1], None),
-            (&[MOST, 1, -1], Some(MOST)),
-            (&[LEAST], Some(LEAST)),
-            (&[LEAST, -1], None),
-            (&[MOST, MOST, MOST, LEAST, LEAST, LEAST], Some(-3)),
-        ];
-        for (numbers, total) in cases {
-            assert_eq!(rt; total_of(numbers), total);
-        }
-    }
-}

@@ -10,8 +10,6 @@ mod memory_source;
 mod sink;
 mod source;
 mod std_ends;
-#[cfg(test)]
-mod tests;
 mod whole;
 
 pub use count_sink::CountSink;
@@ -22,5 +20,5 @@ pub use memory_sink::MemSink;
 pub use memory_source::MemSource;
 pub use sink::Sink;
 pub use source::Source;
-pub use std_ends::{StdSink, StdSource};
+pub use std_ends::{OneWrite, StdSink, StdSource};
 pub use whole::{read_whole, write_whole};

@@ -1,6 +1,6 @@
-ghost use Rattle.std.specs.Prelude.{◌≡◌, ℕ, ◌-◌, ◌^◌, ◌<◌, ◌≤◌, [], Ok, IfOk, OnErr, IsErr};
+ghost use Rattle.std.specs.Prelude.{◌≡◌, ℕ, ◌-◌, ◌^◌, ◌<◌, ◌≤◌, List, [], length, take, Ok, IfOk, OnErr, IsErr};
 ghost use Rattle.std.specs.Io.{ReadsAtMost, WritesAtMost};
-ghost use Rattle.std.specs.Io.KnownBytes.{ReadConsumes, WriteAppends};
+ghost use Rattle.std.specs.Io.KnownBytes.{Appends, ReadConsumes, WriteAppends};
 ghost use Rattle.spec_outside.specs.Causes.{HasCause};
 ghost use Rattle.spec_outside.specs.Ends.{Counted, next_count};
 
@@ -77,6 +77,34 @@ impl<R: Read> Source for StdSource<R> {
     }
 }
 
+/// A writer of std of which each piece asks one write. Every writer is one.
+///
+/// What a write takes of a piece is the writer's own affair, and std's contract of `write` bounds it
+/// alone. So the relation `takes` has no more to say of a writer, and code that is generic over
+/// writers learns it by one way alone: a write of that very piece.
+pub trait OneWrite: Write {
+    /// One write of this piece may take so many bytes of it, and leave the writer so.
+    ghost takes: { Self → List ℕ → ℕ → Self → Type 0 };
+
+    /// One write of the piece.
+    ///
+    /// # Errors
+    ///
+    /// Those of the writer.
+    fn write_once(&mut self, piece: &[u8]) -> io::Result<usize>
+        ensures bound { WritesAtMost result piece.now }
+        ensures bytes { WriteAppends (Self.contents self.old) (Self.contents self.new) result piece.now }
+        ensures takes { IfOk result (λ n. takes self.old piece.now n self.new) };
+}
+
+impl<W: Write> OneWrite for W {
+    ghost takes = { λ old piece n new. (n ≤ length piece) × Appends (W.contents old) (W.contents new) (take n piece) };
+
+    fn write_once(&mut self, piece: &[u8]) -> io::Result<usize> {
+        self.write(piece)
+    }
+}
+
 /// A writer of std as a sink. It tells the bytes that its writer tells. Its count rises by one at
 /// each error of the writer and where the writer takes nothing of a piece that is not empty, and
 /// stays at 2^64 - 1 once it has it. What becomes of the bytes outside is not claimed.
@@ -94,7 +122,7 @@ impl<W> Model for StdSink<W> {
     ghost invariant = { λ s. s.faults ≤ 2 ^ 64 - 1 };
 }
 
-impl<W: Write> StdSink<W> {
+impl<W: OneWrite> StdSink<W> {
     /// The sink of a writer. Nothing failed so far.
     pub fn new(inner: W) -> StdSink<W>
         ensures { result ≡ record { inner = inner; faults = 0 } }
@@ -103,7 +131,7 @@ impl<W: Write> StdSink<W> {
     }
 }
 
-impl<W: Write> Sink for StdSink<W> {
+impl<W: OneWrite> Sink for StdSink<W> {
     ghost held = { λ s. W.contents s.inner };
 
     ghost faults = { λ s. s.faults };
@@ -114,11 +142,13 @@ impl<W: Write> Sink for StdSink<W> {
         ensures progress { IfOk result (λ n. n ≡ 0 → piece.now ≡ []) }
         ensures cause { HasCause self.old.faults self.new.faults result }
         ensures rises { OnErr result (self.new.faults ≡ next_count self.old.faults) }
+        // As much as one write of the whole piece takes.
+        ensures takes { IfOk result (λ n. 0 < n → W.takes self.old.inner piece.now n self.new.inner) }
     {
         let StdSink { inner, faults } = self;
         if piece.is_empty() {
             return Ok(0);
         }
-        sink_answer(inner.write(piece), faults)
+        sink_answer(inner.write_once(piece), faults)
     }
 }

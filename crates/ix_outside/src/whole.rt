@@ -1,6 +1,6 @@
 ghost use Rattle.std.specs.Prelude.{◌≡◌, ℕ, ◌^◌, ◌<◌, ◌≤◌, length, vec_len, IfOk, IfSome, OnOk, OnErr, IsErrOf};
 ghost use Rattle.std.specs.Io.KnownBytes.{Appends};
-ghost use Rattle.spec_outside.specs.Causes.{Rose, AppendsFront, TakesAtMost, IsEmptied};
+ghost use Rattle.spec_outside.specs.Causes.{Rose, AppendsFront, TakesAtMost, TakesPast, IsEmptied};
 
 use crate::fault::{Failed, TakeFault, WriteFault};
 use crate::sink::Sink;
@@ -12,9 +12,10 @@ use std::alloc::Global;
 ///
 /// # Errors
 ///
-/// `Fault` only where the source's count of faults rose. `TooLarge` only where the source had more
-/// than `limit` bytes, if it tells them. `NoMemory`, before more than `limit` bytes were taken. The
-/// bytes taken so far are lost then.
+/// `Fault` only where the source's count of faults rose, before more than `limit` bytes were taken.
+/// `TooLarge` only where the source had more than `limit` bytes, if it tells them, and no fault came
+/// before more than `limit` bytes were taken; at most 4096 bytes past the limit are taken. `NoMemory`,
+/// before more than `limit` bytes were taken. The bytes taken so far are lost then.
 pub fn read_whole<S: Source>(alloc: Global, src: &mut S, limit: usize) -> Result<Vec<u8>, TakeFault>
     requires { limit ≤ 2 ^ 27 }
     // All bytes up to the end, within the limit.
@@ -24,6 +25,10 @@ pub fn read_whole<S: Source>(alloc: Global, src: &mut S, limit: usize) -> Result
     // More than the limit is taken only of a source that had more, and then no other answer comes.
     ensures too_large { IsErrOf result TakeFault.TooLarge → IfSome (S.left src.old) (λ given. limit < length given) }
     ensures taken { (IsErrOf result TakeFault.TooLarge → ⊥) → TakesAtMost (S.left src.old) (S.left src.new) limit }
+    // A fault or too many bytes, whichever comes first in reading: no fault came before the take that
+    // passed the limit, and that take was the last.
+    ensures passed { IsErrOf result TakeFault.TooLarge → TakesPast (S.left src.old) (S.left src.new) limit 4096
+        × (S.faults src.new ≡ S.faults src.old) }
     // The count of faults.
     ensures later { S.faults src.old ≤ S.faults src.new }
     ensures cause { IsErrOf result TakeFault.Fault → Rose (S.faults src.old) (S.faults src.new) }

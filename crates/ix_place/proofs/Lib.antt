@@ -1,4 +1,5 @@
 pub mod Sizes
+pub mod Passed
 pub mod Bounded
 pub mod Laws
 pub mod Rests

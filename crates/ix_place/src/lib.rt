@@ -10,8 +10,6 @@ mod half;
 mod length;
 mod map;
 mod matrix;
-#[cfg(test)]
-mod tests;
 mod types;
 mod vector;
 

@@ -8,8 +8,6 @@ mod loops;
 mod place;
 mod shapes;
 mod span;
-#[cfg(test)]
-mod tests;
 
 pub use fault::LoopFault;
 pub use loops::{Loop, Loops};

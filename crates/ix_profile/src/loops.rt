@@ -3,7 +3,7 @@ use std::marker::Model;
 
 /// A closed polygon by its corners in nanometres: an edge leads from each corner to the next one, and from the last to
 /// the first. Those of profiles lie in the plane z = 0. Contracts see it as the list of the corners.
-#[derive(Debug, Drop)]
+#[derive(Drop)]
 pub struct Loop {
     /// Its corners.
     pub points: Vec<Vector>,
@@ -19,7 +19,7 @@ impl Model for Loop {
 }
 
 /// The loops of a profile or of a face. Contracts see them as the list of the lists of their corners.
-#[derive(Debug, Drop)]
+#[derive(Drop)]
 pub struct Loops {
     /// The loops in their order; a profile has its outer curve first.
     pub loops: Vec<Loop>,

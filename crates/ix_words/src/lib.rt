@@ -4,7 +4,5 @@
 mod job;
 mod numbers;
 mod options;
-#[cfg(test)]
-mod tests;
 
 pub use job::Job;

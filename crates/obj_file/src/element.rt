@@ -5,7 +5,7 @@ use ix_place::Frame;
 use plane_core::Corner;
 
 /// An element of a page.
-#[derive(Debug, Drop)]
+#[derive(Drop)]
 pub struct ObjElement {
     /// The number of the element's instance in its file.
     pub number: u64,

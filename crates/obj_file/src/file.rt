@@ -1,7 +1,7 @@
 use crate::item::ObjItem;
 
 /// A page.
-#[derive(Debug, Drop)]
+#[derive(Drop)]
 pub struct ObjFile {
     /// The grid step in micrometres.
     pub grid: u32,

@@ -2,7 +2,7 @@ use crate::element::ObjElement;
 use spec_refusal::Refusal;
 
 /// An item of a page.
-#[derive(Debug, Drop)]
+#[derive(Drop)]
 pub enum ObjItem {
     /// An element that was converted.
     Printed(ObjElement),

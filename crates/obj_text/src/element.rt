@@ -1,8 +1,9 @@
-ghost use Rattle.std.specs.Prelude.{◌≡◌, ◌<◌, ◌^◌, ◌++◌, OnOk, Some, codes};
+ghost use Rattle.std.specs.Prelude.{◌≡◌, ◌<◌, ◌+◌, ◌^◌, ◌++◌, length, Some, codes};
 ghost use Rattle.spec_page.specs.Items.{Printed};
 ghost use Rattle.spec_page.specs.Lines.{frame_line, volume_line, number_line, element_body};
 ghost use Rattle.spec_page.specs.Page.{item_lines};
 ghost use Rattle.world_print.specs.Elements.{element_of};
+ghost use Rattle.world_print.specs.Appended.{IsAppended};
 
 use crate::faces::{put_corners, put_faces};
 use crate::lines::put_frame;
@@ -13,7 +14,7 @@ use world_print::ElementMesh;
 
 /// Appends the sixfold volume, or that there is none.
 fn put_volume(page: &mut Vec<u8>, six: Option<i128>) -> Result<(), AllocError>
-    ensures { OnOk result (page.new.items ≡ page.old.items ++ volume_line six) }
+    ensures { IsAppended result page.old.items page.new.items (volume_line six) }
 {
     match six {
         None => page.extend_from_slice(b"#vol6 none\n"),
@@ -22,7 +23,7 @@ fn put_volume(page: &mut Vec<u8>, six: Option<i128>) -> Result<(), AllocError>
 }
 
 fn put_sixfold(page: &mut Vec<u8>, six: i128) -> Result<(), AllocError>
-    ensures { OnOk result (page.new.items ≡ page.old.items ++ volume_line (Some six)) }
+    ensures { IsAppended result page.old.items page.new.items (volume_line (Some six)) }
 {
     page.extend_from_slice(b"#vol6")?;
     put_spaced(page, six)?;
@@ -32,7 +33,7 @@ fn put_sixfold(page: &mut Vec<u8>, six: i128) -> Result<(), AllocError>
 
 /// Appends the first lines of an element's block.
 fn put_head(page: &mut Vec<u8>, number: u64, frame: &Transform) -> Result<(), AllocError>
-    ensures { OnOk result (page.new.items ≡ page.old.items ++ (number_line (codes "o ") number ++ frame_line frame.now)) }
+    ensures { IsAppended result page.old.items page.new.items (number_line (codes "o ") number ++ frame_line frame.now) }
 {
     put_number_line(page, b"o ", number)?;
     put_frame(page, frame)
@@ -40,8 +41,8 @@ fn put_head(page: &mut Vec<u8>, number: u64, frame: &Transform) -> Result<(), Al
 
 /// Appends the corners, the faces and the volume of a mesh.
 fn put_mesh(page: &mut Vec<u8>, mesh: &ElementMesh, before: u128) -> Result<(), AllocError>
-    requires { before < 2 ^ 127 }
-    ensures { OnOk result (page.new.items ≡ page.old.items ++ element_body before (element_of mesh.now)) }
+    requires { before + length mesh.now.mesh.corners.items < 2 ^ 128 }
+    ensures { IsAppended result page.old.items page.new.items (element_body before (element_of mesh.now)) }
 {
     put_corners(page, &mesh.mesh.corners, &mesh.printed)?;
     put_faces(page, before, &mesh.mesh.faces)?;
@@ -55,8 +56,8 @@ fn put_mesh(page: &mut Vec<u8>, mesh: &ElementMesh, before: u128) -> Result<(), 
 ///
 /// Want of memory.
 pub fn write_element(page: &mut Vec<u8>, mesh: &ElementMesh, before: u128) -> Result<(), AllocError>
-    requires { before < 2 ^ 127 }
-    ensures { OnOk result (page.new.items ≡ page.old.items ++ item_lines before (Printed (element_of mesh.now))) }
+    requires { before + length mesh.now.mesh.corners.items < 2 ^ 128 }
+    ensures { IsAppended result page.old.items page.new.items (item_lines before (Printed (element_of mesh.now))) }
 {
     put_head(page, mesh.number, &mesh.frame.transform)?;
     put_mesh(page, mesh, before)

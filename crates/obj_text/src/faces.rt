@@ -1,9 +1,10 @@
-ghost use Rattle.std.specs.Prelude.{◌≡◌, ◌<◌, ◌^◌, ◌++◌, [], ◌∷◌, OnOk, codes};
+ghost use Rattle.std.specs.Prelude.{◌≡◌, ◌<◌, ◌+◌, ◌^◌, ◌++◌, All, codes};
 ghost use Rattle.std.specs.List.{flat_map};
 ghost use Rattle.spec_page.specs.Lines.{plane_line, corner_lines, index_text, indices_line, face_lines};
 ghost use Rattle.plane_core.specs.Views.{point_of};
 ghost use Rattle.exact_mesh.specs.Meshes.{numbered_plane, vector_of, face_of};
 ghost use Rattle.world_print.specs.Elements.{page_corners};
+ghost use Rattle.world_print.specs.Appended.{IsAppended};
 
 use crate::lines::{put_corner, put_plane};
 use crate::numbers::put_number;
@@ -46,7 +47,7 @@ pub(crate) fn put_corners(
     corners: &[plane_core::Corner],
     printed: &[[i128; 3]],
 ) -> Result<(), AllocError>
-    ensures { OnOk result (page.new.items ≡ page.old.items ++ flat_map corner_lines (page_corners corners.now printed.now)) }
+    ensures { IsAppended result page.old.items page.new.items (flat_map corner_lines (page_corners corners.now printed.now)) }
 {
     let mut corners = corners;
     let mut printed = printed;
@@ -62,7 +63,7 @@ pub(crate) fn put_corners(
 }
 
 fn put_edges(page: &mut Vec<u8>, edges: &[[i128; 4]]) -> Result<(), AllocError>
-    ensures { OnOk result (page.new.items ≡ page.old.items ++ flat_map (λ e. plane_line (codes "#e") (numbered_plane e)) edges.now) }
+    ensures { IsAppended result page.old.items page.new.items (flat_map (λ e. plane_line (codes "#e") (numbered_plane e)) edges.now) }
 {
     for edge in edges {
         put_plane(page, b"#e", &plane(edge))?;
@@ -72,16 +73,16 @@ fn put_edges(page: &mut Vec<u8>, edges: &[[i128; 4]]) -> Result<(), AllocError>
 
 /// Appends the number of a corner over the whole page, behind a space.
 fn put_index(page: &mut Vec<u8>, before: u128, place: usize) -> Result<(), AllocError>
-    requires { before < 2 ^ 127 }
-    ensures { OnOk result (page.new.items ≡ page.old.items ++ index_text before place) }
+    requires { before + place + 1 < 2 ^ 128 }
+    ensures { IsAppended result page.old.items page.new.items (index_text before place) }
 {
     page.push(b' ')?;
     put_number(page, before + place as u128 + 1)
 }
 
 fn put_places(page: &mut Vec<u8>, before: u128, places: &[usize]) -> Result<(), AllocError>
-    requires { before < 2 ^ 127 }
-    ensures { OnOk result (page.new.items ≡ page.old.items ++ flat_map (index_text before) places.now) }
+    requires { All (λ i. before + i + 1 < 2 ^ 128) places.now }
+    ensures { IsAppended result page.old.items page.new.items (flat_map (index_text before) places.now) }
 {
     for place in places {
         put_index(page, before, *place)?;
@@ -90,8 +91,8 @@ fn put_places(page: &mut Vec<u8>, before: u128, places: &[usize]) -> Result<(), 
 }
 
 fn put_indices(page: &mut Vec<u8>, before: u128, places: &[usize]) -> Result<(), AllocError>
-    requires { before < 2 ^ 127 }
-    ensures { OnOk result (page.new.items ≡ page.old.items ++ indices_line before places.now) }
+    requires { All (λ i. before + i + 1 < 2 ^ 128) places.now }
+    ensures { IsAppended result page.old.items page.new.items (indices_line before places.now) }
 {
     page.push(b'f')?;
     put_places(page, before, places)?;
@@ -100,8 +101,8 @@ fn put_indices(page: &mut Vec<u8>, before: u128, places: &[usize]) -> Result<(),
 }
 
 fn put_face(page: &mut Vec<u8>, before: u128, face: &MeshFace) -> Result<(), AllocError>
-    requires { before < 2 ^ 127 }
-    ensures { OnOk result (page.new.items ≡ page.old.items ++ face_lines before (face_of face.now)) }
+    requires { All (λ i. before + i + 1 < 2 ^ 128) face.now.corners.items }
+    ensures { IsAppended result page.old.items page.new.items (face_lines before (face_of face.now)) }
 {
     put_plane(page, b"#p", &plane(&face.plane))?;
     put_edges(page, &face.edges)?;
@@ -113,8 +114,8 @@ pub(crate) fn put_faces(
     before: u128,
     faces: &[MeshFace],
 ) -> Result<(), AllocError>
-    requires { before < 2 ^ 127 }
-    ensures { OnOk result (page.new.items ≡ page.old.items ++ flat_map (λ f. face_lines before (face_of f)) faces.now) }
+    requires { All (λ f. All (λ i. before + i + 1 < 2 ^ 128) f.corners.items) faces.now }
+    ensures { IsAppended result page.old.items page.new.items (flat_map (λ f. face_lines before (face_of f)) faces.now) }
 {
     for face in faces {
         put_face(page, before, face)?;

@@ -1,5 +1,6 @@
-ghost use Rattle.std.specs.Prelude.{◌≡◌, ◌++◌, OnOk};
+ghost use Rattle.std.specs.Prelude.{◌≡◌, ◌++◌};
 ghost use Rattle.spec_page.specs.Lines.{plane_line, frame_line, exact_line, printed_line, corner_lines};
+ghost use Rattle.world_print.specs.Appended.{IsAppended};
 
 use crate::numbers::{put_spaced, put_spaced_metres, put_three, put_vector};
 use spec_page::Corner;
@@ -9,7 +10,7 @@ use std::alloc::AllocError;
 
 /// Appends the line of a plane behind its sign.
 pub(crate) fn put_plane(page: &mut Vec<u8>, sign: &[u8], plane: &Plane) -> Result<(), AllocError>
-    ensures { OnOk result (page.new.items ≡ page.old.items ++ plane_line sign.now plane.now) }
+    ensures { IsAppended result page.old.items page.new.items (plane_line sign.now plane.now) }
 {
     page.extend_from_slice(sign)?;
     put_three(page, plane.a, plane.b, plane.c)?;
@@ -19,7 +20,7 @@ pub(crate) fn put_plane(page: &mut Vec<u8>, sign: &[u8], plane: &Plane) -> Resul
 }
 
 pub(crate) fn put_frame(page: &mut Vec<u8>, frame: &Transform) -> Result<(), AllocError>
-    ensures { OnOk result (page.new.items ≡ page.old.items ++ frame_line frame.now) }
+    ensures { IsAppended result page.old.items page.new.items (frame_line frame.now) }
 {
     page.extend_from_slice(b"#frame")?;
     put_vector(page, &frame.x)?;
@@ -31,7 +32,7 @@ pub(crate) fn put_frame(page: &mut Vec<u8>, frame: &Transform) -> Result<(), All
 }
 
 fn put_exact(page: &mut Vec<u8>, point: &Point) -> Result<(), AllocError>
-    ensures { OnOk result (page.new.items ≡ page.old.items ++ exact_line point.now) }
+    ensures { IsAppended result page.old.items page.new.items (exact_line point.now) }
 {
     page.extend_from_slice(b"#c")?;
     put_three(page, point.x, point.y, point.z)?;
@@ -41,7 +42,7 @@ fn put_exact(page: &mut Vec<u8>, point: &Point) -> Result<(), AllocError>
 }
 
 fn put_printed(page: &mut Vec<u8>, printed: &Vector) -> Result<(), AllocError>
-    ensures { OnOk result (page.new.items ≡ page.old.items ++ printed_line printed.now) }
+    ensures { IsAppended result page.old.items page.new.items (printed_line printed.now) }
 {
     page.push(b'v')?;
     put_spaced_metres(page, printed.x)?;
@@ -52,7 +53,7 @@ fn put_printed(page: &mut Vec<u8>, printed: &Vector) -> Result<(), AllocError>
 }
 
 pub(crate) fn put_corner(page: &mut Vec<u8>, corner: &Corner) -> Result<(), AllocError>
-    ensures { OnOk result (page.new.items ≡ page.old.items ++ corner_lines corner.now) }
+    ensures { IsAppended result page.old.items page.new.items (corner_lines corner.now) }
 {
     put_exact(page, &corner.exact)?;
     put_printed(page, &corner.printed)

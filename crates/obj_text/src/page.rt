@@ -1,5 +1,6 @@
-ghost use Rattle.std.specs.Prelude.{◌≡◌, ◌++◌, OnOk};
+ghost use Rattle.std.specs.Prelude.{◌≡◌, ◌++◌};
 ghost use Rattle.spec_page.specs.Page.{page_head, page_end};
+ghost use Rattle.world_print.specs.Appended.{IsAppended};
 
 use crate::numbers::put_number_line;
 use std::alloc::AllocError;
@@ -10,7 +11,7 @@ use std::alloc::AllocError;
 ///
 /// Want of memory.
 pub fn write_head(page: &mut Vec<u8>, grid: u32) -> Result<(), AllocError>
-    ensures { OnOk result (page.new.items ≡ page.old.items ++ page_head grid) }
+    ensures { IsAppended result page.old.items page.new.items (page_head grid) }
 {
     put_number_line(page, b"# ifcexact 1\n# grid ", u64::from(grid))
 }
@@ -21,7 +22,7 @@ pub fn write_head(page: &mut Vec<u8>, grid: u32) -> Result<(), AllocError>
 ///
 /// Want of memory.
 pub fn write_end(page: &mut Vec<u8>) -> Result<(), AllocError>
-    ensures { OnOk result (page.new.items ≡ page.old.items ++ page_end) }
+    ensures { IsAppended result page.old.items page.new.items page_end }
 {
     page.extend_from_slice(b"# end\n")
 }

@@ -1,7 +1,8 @@
-ghost use Rattle.std.specs.Prelude.{◌≡◌, ◌++◌, OnOk};
+ghost use Rattle.std.specs.Prelude.{◌≡◌, ◌++◌};
 ghost use Rattle.spec_page.specs.Refusals.{named_at, spaced_number, further, spaced_corner, refusal_text};
 ghost use Rattle.spec_page.specs.Lines.{spaced};
 ghost use Rattle.spec_page.specs.Page.{skipped_line, refused_line};
+ghost use Rattle.world_print.specs.Appended.{IsAppended};
 
 use crate::numbers::{put_number, put_number_line, put_spaced};
 use spec_refusal::Refusal;
@@ -10,7 +11,7 @@ use std::alloc::AllocError;
 
 /// Appends a name, and behind it the number of an instance.
 fn put_named(page: &mut Vec<u8>, name: &[u8], at: u64) -> Result<(), AllocError>
-    ensures { OnOk result (page.new.items ≡ page.old.items ++ named_at name.now at) }
+    ensures { IsAppended result page.old.items page.new.items (named_at name.now at) }
 {
     page.extend_from_slice(name)?;
     page.extend_from_slice(b" #")?;
@@ -19,7 +20,7 @@ fn put_named(page: &mut Vec<u8>, name: &[u8], at: u64) -> Result<(), AllocError>
 
 /// Appends a number behind a space.
 fn put_spaced_number(page: &mut Vec<u8>, number: u128) -> Result<(), AllocError>
-    ensures { OnOk result (page.new.items ≡ page.old.items ++ spaced_number number) }
+    ensures { IsAppended result page.old.items page.new.items (spaced_number number) }
 {
     page.push(b' ')?;
     put_number(page, number)
@@ -27,7 +28,7 @@ fn put_spaced_number(page: &mut Vec<u8>, number: u128) -> Result<(), AllocError>
 
 /// Appends a name with the number of an instance, and another number.
 fn put_named_with(page: &mut Vec<u8>, name: &[u8], at: u64, number: u128) -> Result<(), AllocError>
-    ensures { OnOk result (page.new.items ≡ page.old.items ++ (named_at name.now at ++ spaced_number number)) }
+    ensures { IsAppended result page.old.items page.new.items (named_at name.now at ++ spaced_number number) }
 {
     put_named(page, name, at)?;
     put_spaced_number(page, number)
@@ -35,7 +36,7 @@ fn put_named_with(page: &mut Vec<u8>, name: &[u8], at: u64, number: u128) -> Res
 
 /// Appends a whole number behind a comma.
 fn put_further(page: &mut Vec<u8>, number: i128) -> Result<(), AllocError>
-    ensures { OnOk result (page.new.items ≡ page.old.items ++ further number) }
+    ensures { IsAppended result page.old.items page.new.items (further number) }
 {
     let mut buffer = itoa::Buffer::new();
     page.push(b',')?;
@@ -44,14 +45,14 @@ fn put_further(page: &mut Vec<u8>, number: i128) -> Result<(), AllocError>
 
 /// Appends three coordinates behind a space, with commas between them.
 fn put_spaced_corner(page: &mut Vec<u8>, corner: &Vector) -> Result<(), AllocError>
-    ensures { OnOk result (page.new.items ≡ page.old.items ++ spaced_corner corner.now) }
+    ensures { IsAppended result page.old.items page.new.items (spaced_corner corner.now) }
 {
     put_three_parts(page, corner.x, corner.y, corner.z)
 }
 
 /// Appends three whole numbers behind a space, with commas between them.
 fn put_three_parts(page: &mut Vec<u8>, x: i128, y: i128, z: i128) -> Result<(), AllocError>
-    ensures { OnOk result (page.new.items ≡ page.old.items ++ (spaced x ++ further y ++ further z)) }
+    ensures { IsAppended result page.old.items page.new.items (spaced x ++ further y ++ further z) }
 {
     put_spaced(page, x)?;
     put_further(page, y)?;
@@ -60,7 +61,7 @@ fn put_three_parts(page: &mut Vec<u8>, x: i128, y: i128, z: i128) -> Result<(), 
 
 /// Appends two corners.
 fn put_edge(page: &mut Vec<u8>, from: &Vector, to: &Vector) -> Result<(), AllocError>
-    ensures { OnOk result (page.new.items ≡ page.old.items ++ (spaced_corner from.now ++ spaced_corner to.now)) }
+    ensures { IsAppended result page.old.items page.new.items (spaced_corner from.now ++ spaced_corner to.now) }
 {
     put_spaced_corner(page, from)?;
     put_spaced_corner(page, to)
@@ -74,7 +75,7 @@ fn put_named_with_edge(
     from: &Vector,
     to: &Vector,
 ) -> Result<(), AllocError>
-    ensures { OnOk result (page.new.items ≡ page.old.items ++ (named_at name.now at ++ (spaced_corner from.now ++ spaced_corner to.now))) }
+    ensures { IsAppended result page.old.items page.new.items (named_at name.now at ++ (spaced_corner from.now ++ spaced_corner to.now)) }
 {
     put_named(page, name, at)?;
     put_edge(page, from, to)
@@ -82,7 +83,7 @@ fn put_named_with_edge(
 
 /// Appends the refusal of an element that is too large.
 fn put_too_large(page: &mut Vec<u8>, triangles: u128) -> Result<(), AllocError>
-    ensures { OnOk result (page.new.items ≡ page.old.items ++ refusal_text (Refusal.ElementTooLarge triangles)) }
+    ensures { IsAppended result page.old.items page.new.items (refusal_text (Refusal.ElementTooLarge triangles)) }
 {
     page.extend_from_slice(b"E9 ElementTooLarge")?;
     put_spaced_number(page, triangles)
@@ -90,7 +91,7 @@ fn put_too_large(page: &mut Vec<u8>, triangles: u128) -> Result<(), AllocError>
 
 /// Appends code, name and numbers of a refusal.
 fn put_refusal(page: &mut Vec<u8>, refusal: &Refusal) -> Result<(), AllocError>
-    ensures { OnOk result (page.new.items ≡ page.old.items ++ refusal_text refusal.now) }
+    ensures { IsAppended result page.old.items page.new.items (refusal_text refusal.now) }
 {
     match refusal {
         Refusal::Unsupported { at } => put_named(page, b"E1 Unsupported", *at),
@@ -121,7 +122,7 @@ fn put_refusal(page: &mut Vec<u8>, refusal: &Refusal) -> Result<(), AllocError>
 ///
 /// Want of memory.
 pub fn write_skipped(page: &mut Vec<u8>, number: u64) -> Result<(), AllocError>
-    ensures { OnOk result (page.new.items ≡ page.old.items ++ skipped_line number) }
+    ensures { IsAppended result page.old.items page.new.items (skipped_line number) }
 {
     put_number_line(page, b"#skipped ", number)
 }
@@ -132,7 +133,7 @@ pub fn write_skipped(page: &mut Vec<u8>, number: u64) -> Result<(), AllocError>
 ///
 /// Want of memory.
 pub fn write_refused(page: &mut Vec<u8>, number: u64, refusal: &Refusal) -> Result<(), AllocError>
-    ensures { OnOk result (page.new.items ≡ page.old.items ++ refused_line number refusal.now) }
+    ensures { IsAppended result page.old.items page.new.items (refused_line number refusal.now) }
 {
     page.extend_from_slice(b"#refused ")?;
     put_number(page, u128::from(number))?;

@@ -6,8 +6,6 @@ mod left;
 mod regions;
 mod sides;
 mod step;
-#[cfg(test)]
-mod tests;
 mod walk;
 mod work;
 

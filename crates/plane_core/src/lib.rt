@@ -9,8 +9,6 @@ mod points;
 mod raw_corners;
 mod reduce;
 mod reduced;
-#[cfg(test)]
-mod tests;
 mod walls;
 
 pub use book::{PlaneBook, PlaneId};

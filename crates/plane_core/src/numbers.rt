@@ -37,7 +37,7 @@ pub struct Corner {
 /// The point `(x / w, y / w, z / w)` in grid steps, where three planes meet, as Cramer's rule gives it. It is not reduced, so
 /// one point has many spellings: sides are asked of it, and it has no equality. The weight w is positive and at most
 /// 6 * 2^78, and the sizes of the others are at most 6 * 2^96.
-#[derive(Clone, Copy, Debug)]
+#[derive(Clone, Copy)]
 pub struct RawCorner {
     pub x: i128,
     pub y: i128,

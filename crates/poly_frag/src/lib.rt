@@ -8,8 +8,6 @@ mod cut;
 mod frag;
 mod inner;
 mod meets;
-#[cfg(test)]
-mod tests;
 mod whole;
 
 pub use cut::split;

@@ -1,5 +1,5 @@
-//! Tests of the readers of geometry, from the text of a file on: numbers, placements, curves, profiles, breps, solids and
-//! elements.
+//! Tests of the readers, from the text of a file on: tokens, files and what is printed of them, tables, entities, numbers,
+//! placements, curves, profiles, breps, solids and elements.
 #![tactic(auto)]
 
 #[cfg(test)]
@@ -9,12 +9,22 @@ mod curves;
 #[cfg(test)]
 mod elements;
 #[cfg(test)]
+mod entities;
+#[cfg(test)]
+mod files;
+#[cfg(test)]
 mod numbers;
 #[cfg(test)]
 mod placements;
+#[cfg(test)]
+mod printing;
 #[cfg(test)]
 mod profiles;
 #[cfg(test)]
 mod samples;
 #[cfg(test)]
 mod solids;
+#[cfg(test)]
+mod tables;
+#[cfg(test)]
+mod tokens;

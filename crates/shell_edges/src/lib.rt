@@ -3,7 +3,5 @@
 
 mod odd;
 mod place;
-#[cfg(test)]
-mod tests;
 
 pub use odd::open_edge;

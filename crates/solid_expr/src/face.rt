@@ -3,7 +3,7 @@ use std::marker::Model;
 
 /// A face by its loops of corners in nanometres: at least one loop, each of at least three corners, with coordinates
 /// below 2^62 in size. Contracts see it as a face of the definitions.
-#[derive(Debug, Drop)]
+#[derive(Drop)]
 pub struct Face {
     /// The number of the instance that a refusal of the face names.
     pub at: u64,

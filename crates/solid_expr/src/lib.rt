@@ -7,8 +7,6 @@ mod face_loops;
 mod lift;
 mod prism;
 mod solid;
-#[cfg(test)]
-mod tests;
 mod vectors;
 
 pub use count::{count_triangles, is_bounded};

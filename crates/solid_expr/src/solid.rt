@@ -5,7 +5,7 @@ use sqlite_items::{Boxed, Items};
 
 /// A solid as it is read, before it is mapped to the grid and rounded. `at` is the number of its instance, which a refusal of
 /// a primitive names.
-#[derive(Debug, Drop)]
+#[derive(Drop)]
 pub enum Solid {
     /// A primitive by its faces, whose corners are those before the map.
     Faces {
@@ -35,7 +35,7 @@ pub enum Solid {
 }
 
 /// An item of a representation.
-#[derive(Debug, Drop)]
+#[derive(Drop)]
 pub struct Item {
     /// The number of its instance.
     pub at: u64,
@@ -44,7 +44,7 @@ pub struct Item {
 }
 
 /// The solid of an element: its items without the items of its openings.
-#[derive(Debug, Drop)]
+#[derive(Drop)]
 pub struct ElementSolid {
     /// The number of the element's instance.
     pub number: u64,

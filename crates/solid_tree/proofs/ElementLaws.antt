@@ -1,5 +1,5 @@
 -- The tree of an element.
-use Rattle.std.proofs.Common.{◌≡◌, ◌≢◌, ℕ, ℤ, pos, ◌*ℤ◌, Bool, true, false, not, ◌&&◌, List, [], ◌++◌, map, Some, slice_get, refl, sym, ap, subst, ◌∙◌, inl, inr, arith}
+use Rattle.std.proofs.Common.{◌≡◌, ◌≢◌, pos, Bool, true, false, ◌&&◌, List, [], ◌++◌, map, refl, sym, subst, ◌∙◌}
 use Rattle.std.specs.List.{flat_map, Contains}
 use Rattle.std.proofs.lemmas.List.Elements.{Contains-append_left, Contains-append_right}
 use Rattle.std.proofs.Math.Logic.{∥∥₁_elim}
@@ -22,18 +22,17 @@ use Rattle.grid_solid.proofs.Laws.{body_formed}
 use Rattle.tree_pool.specs.declared.node.TreeId.{TreeId}
 use Rattle.tree_pool.specs.Trees.{Tree}
 use Rattle.tree_pool.specs.Pools.{Slots, StandsFor, AreTrees}
-use Rattle.tree_pool.specs.Kept.{IsKept}
-use Rattle.triangle_trees.specs.Forms.{IsTreeOf, IsOffAll}
+use Rattle.triangle_trees.specs.Forms.{IsTreeOf}
 use Rattle.triangle_trees.proofs.Covers.{value_of_times}
 use Rattle.solid_tree.specs.Unions.{HasTree, less}
 use Rattle.solid_tree.specs.Elements.{IsElementTree}
 use Rattle.solid_tree.proofs.Trees.{tree_same, tree_wider}
 
 -- ---- the planes of an element
-plane_is : (body : Body) (k : Plane) (p : BookPlane) → Contains (body_planes body) k → IsReductionOf p k.a k.b k.c k.d → IsPlaneOf body (plane_of p)
+pub plane_is : (body : Body) (k : Plane) (p : BookPlane) → Contains (body_planes body) k → IsReductionOf p k.a k.b k.c k.d → IsPlaneOf body (plane_of p)
 plane_is body k p there r = (reduced_is_reduced p, (k, r.factor, there, r.some, r.times))
 
-off_plane : (body : Body) (q : Point) → ((h : Plane) → IsPlaneOf body h → value h q ≢ pos 0) → (k : Plane) → Contains (body_planes body) k → HasForm k → value k q ≢ pos 0
+pub off_plane : (body : Body) (q : Point) → ((h : Plane) → IsPlaneOf body h → value h q ≢ pos 0) → (k : Plane) → Contains (body_planes body) k → HasForm k → value k q ≢ pos 0
 off_plane body q off k there form z = ∥∥₁_elim form (λ a b. absurd a) (λ f. by f.0 f.1)
   where
     by : (p : BookPlane) → IsReductionOf p k.a k.b k.c k.d → ⊥
@@ -46,10 +45,9 @@ element_is planes s t is = record {
   among = λ n i. let f = is.among n i in (f.0, f.2, plane_is (body_of s) f.1 f.0 f.3 f.4);
 }
 
--- ---- in a pool that is swept
-pub has_swept : (before after : Slots) (planes : List BookPlane) (roots : List TreeId) → ((id : TreeId) (t : Tree) → IsKept before roots id → StandsFor before id t → StandsFor after id t) → (ks : List Plane) (told : Point → Bool) (id : TreeId) → Contains roots id
-    → HasTree before planes ks told id → HasTree after planes ks told id
-has_swept before after planes roots kept ks told id root h = (h.0, kept id h.0 (0, inr root) h.1, h.2)
+-- ---- where a number keeps its tree
+pub has_stood : (before after : Slots) (planes : List BookPlane) (ks : List Plane) (told : Point → Bool) (id : TreeId) → ((t : Tree) → StandsFor before id t → StandsFor after id t) → HasTree before planes ks told id → HasTree after planes ks told id
+has_stood before after planes ks told id stands h = (h.0, stands h.0 h.1, h.2)
 
 -- ---- more planes, and openings
 pub left_has : (pool : Slots) (planes : List BookPlane) (ks ls : List Plane) (told : Point → Bool) (id : TreeId) → HasTree pool planes ks told id → HasTree pool planes (ks ++ ls) told id

@@ -1,25 +1,22 @@
 -- No point with a coordinate above the sizes of corners is inside a bounded solid.
-use Rattle.std.proofs.Common.{◌≡◌, ◌≢◌, ℕ, ◌≤◌, ◌^◌, ℤ, pos, negsuc, ◌+ℤ◌, ◌-ℤ◌, ◌*ℤ◌, ◌<ℤ◌, ◌≤ℤ◌, int_lt, int_le, unsigned_abs, Bool, true, false, not, ◌&&◌, ◌||◌, List, [], ◌∷◌, map, refl, sym, ap, ap₂, ◌∙◌, ◌⊎◌, inl, inr, arith, true≢false, subst}
+use Rattle.std.proofs.Common.{◌≡◌, ◌≢◌, ◌≤◌, ◌^◌, ℤ, pos, negsuc, ◌+ℤ◌, ◌-ℤ◌, ◌*ℤ◌, ◌<ℤ◌, ◌≤ℤ◌, int_lt, int_le, unsigned_abs, Bool, true, false, not, ◌&&◌, ◌||◌, List, [], ◌∷◌, map, refl, sym, ap, ap₂, ◌∙◌, ◌⊎◌, inl, inr, arith, true≢false}
 use Rattle.std.specs.Prelude.{if◌then◌else◌}
 use Rattle.std.specs.List.{All, Contains, flat_map}
 use Rattle.std.proofs.lemmas.Int.{ints}
 use Rattle.std.proofs.lemmas.List.Elements.{All-head, All-tail, Contains-append_left, Contains-append_right}
 use Rattle.spec_space.specs.declared.Point.{Point}
 use Rattle.spec_space.specs.declared.Plane.{Plane}
-use Rattle.spec_space.specs.declared.Vector.{Vector}
-use Rattle.spec_space.specs.Points.{IsPoint, value, way, minus}
-use Rattle.spec_solid.specs.declared.BoolOp.{BoolOp}
+use Rattle.spec_space.specs.Points.{IsPoint, value}
 use Rattle.spec_solid.specs.declared.BoolOp.TheVariants.{Union, Intersection, Difference}
-use Rattle.spec_solid.specs.Triangles.{Triangle, differ, is_low, rises_above, passes_above, is_pierced}
-use Rattle.spec_solid.specs.Solids.{pierces_oddly, truth, is_inside, is_inside_some}
+use Rattle.spec_solid.specs.Triangles.{Triangle, differ, is_pierced}
+use Rattle.spec_solid.specs.Solids.{pierces_oddly, is_inside, is_inside_some}
 use Rattle.spec_solid.specs.Planes.{solid_planes}
 use Rattle.integer_laws.proofs.Ring.{var, ◌⊕◌, ◌⊗◌, ◌⊖◌, ring}
 use Rattle.integer_laws.proofs.Signs.{mul_positive, mul_negative, mul_nonneg}
 use Rattle.integer_laws.proofs.Cancel.{sign_cases, mul_zero_right, positive_right, mul_nonpos}
-use Rattle.ray_law.specs.Columns.{rises_right, passes_right, is_below}
+use Rattle.ray_law.specs.Columns.{is_below}
 use Rattle.ray_law.specs.Shells.{lies_below_oddly}
 use Rattle.ray_law.proofs.Shells.{ray_law}
-use Rattle.ray_law.specs.Ranges.{AreSteps}
 use Rattle.grid_solid.specs.Triangles.{triangle_of, IsNear}
 use Rattle.grid_solid.specs.Shapes.{Shape, Triangles, Half, Joined, Nothing, shape_solid}
 use Rattle.grid_solid.specs.Bounds.{is_bounded, IsBounded}

@@ -7,3 +7,5 @@ mod ElementLaws
 pub mod Far
 mod Nudges
 mod Tight
+mod Kept
+mod OneMeaning

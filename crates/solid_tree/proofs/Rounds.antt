@@ -1,15 +1,15 @@
 -- The trees of some solids, one after another, in a book and a pool that grow.
 use Rattle.std.proofs.Common.{◌≡◌, ℕ, zero, suc, ◌+◌, ◌<◌, ◌≤◌, List, [], ◌∷◌, ◌++◌, map, length, get_or, take, refl, sym, ap, subst, ◌∙◌, arith, add-one}
-use Rattle.std.specs.List.{All, Contains, flat_map}
-use Rattle.std.proofs.lemmas.List.Elements.{Contains-append_left, Contains-append_right, All-push}
+use Rattle.std.specs.List.{Contains, flat_map}
+use Rattle.std.proofs.lemmas.List.Elements.{Contains-append_left, Contains-append_right}
 use Rattle.spec_space.specs.declared.Plane.{Plane}
-use Rattle.spec_solid.specs.Solids.{Solid, is_inside}
+use Rattle.spec_solid.specs.Solids.{is_inside}
 use Rattle.spec_solid.specs.Planes.{solid_planes}
 use Rattle.plane_core.specs.declared.numbers.Plane.{Plane as BookPlane}
 use Rattle.grid_solid.specs.declared.nodes.GridNode.{GridNode}
 use Rattle.grid_solid.specs.Views.{solid_of}
 use Rattle.tree_pool.specs.declared.node.TreeId.{TreeId}
-use Rattle.tree_pool.specs.Pools.{Slots, IsLive, KeepsTrees}
+use Rattle.tree_pool.specs.Pools.{Slots, KeepsTrees}
 use Rattle.triangle_trees.specs.Forms.{IsGrown}
 use Rattle.grid_solid.specs.Counts.{plane_count}
 use Rattle.triangle_trees.proofs.Grown.{grown_further}

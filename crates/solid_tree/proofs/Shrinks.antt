@@ -1,5 +1,5 @@
 -- The parts of a node are smaller than the node.
-use Rattle.std.proofs.Common.{◌≡◌, ℕ, zero, suc, ◌+◌, ◌<◌, ◌≤◌, List, [], ◌∷◌, map, length, get_or, sym, ap, subst, ◌∙◌, arith}
+use Rattle.std.proofs.Common.{◌≡◌, ℕ, zero, suc, ◌+◌, ◌<◌, List, [], ◌∷◌, map, length, get_or, sym, ap, subst, ◌∙◌, arith}
 use Rattle.spec_solid.specs.declared.BoolOp.{BoolOp}
 use Rattle.grid_solid.specs.declared.nodes.GridNode.{GridNode}
 use Rattle.grid_solid.specs.declared.nodes.GridNode.TheVariants.{Combined, Union}

@@ -1,13 +1,13 @@
 -- The tree of an element is tight: where a coordinate has a size above 2^20 it is false, also on planes of the element that
 -- it does not have.
-use Rattle.std.proofs.Common.{◌≡◌, ◌≢◌, ◌⊎◌, ℕ, zero, suc, ◌<◌, ℤ, pos, negsuc, ◌+ℤ◌, ◌-ℤ◌, ◌*ℤ◌, ◌<ℤ◌, ◌≤ℤ◌, int_lt, Bool, true, false, not, ◌&&◌, List, [], ◌∷◌, ◌++◌, map, slice_get, Option, Some, refl, sym, ap, subst, ◌∙◌, inl, inr, arith, true≢false}
+use Rattle.std.proofs.Common.{◌≡◌, ◌≢◌, ℕ, zero, suc, ℤ, pos, negsuc, ◌+ℤ◌, ◌-ℤ◌, ◌*ℤ◌, ◌<ℤ◌, ◌≤ℤ◌, int_lt, Bool, true, false, not, ◌&&◌, List, [], ◌∷◌, ◌++◌, map, slice_get, Option, Some, refl, sym, ap, subst, ◌∙◌, inl, inr, arith, true≢false}
 use Rattle.std.specs.List.{Contains, flat_map}
 use Rattle.std.proofs.lemmas.Int.{ints}
 use Rattle.std.proofs.lemmas.List.Elements.{Contains-append_left, Contains-append_right, Contains-append_cases}
 use Rattle.std.proofs.Math.Logic.{∥∥₁_elim}
 use Rattle.spec_space.specs.declared.Point.{Point}
 use Rattle.spec_space.specs.declared.Plane.{Plane}
-use Rattle.spec_space.specs.Points.{IsPoint, value}
+use Rattle.spec_space.specs.Points.{value}
 use Rattle.spec_space.specs.Reduced.{LeadsPositive}
 use Rattle.spec_solid.specs.Solids.{is_inside_some, is_meant}
 use Rattle.spec_solid.specs.Planes.{solid_planes, body_planes}
@@ -21,7 +21,7 @@ use Rattle.plane_core.specs.Views.{plane_of}
 use Rattle.plane_core.proofs.Laws.{reduced_is_reduced}
 use Rattle.poly_frag.specs.Cubes.{IsInsideCube}
 use Rattle.poly_frag.specs.Frags.{numbered}
-use Rattle.tree_pool.specs.Trees.{Tree, leaf, node, level_by, choose, value_of, IsPlaneOf, IsOff}
+use Rattle.tree_pool.specs.Trees.{Tree, leaf, node, level_by, choose, value_of, IsOff}
 use Rattle.parity_trees.proofs.Cells.{level_is}
 use Rattle.grid_solid.specs.Triangles.{HasForm}
 use Rattle.grid_solid.specs.Bodies.{body_of}

@@ -1,6 +1,6 @@
 -- Trees that tell meanings: in a pool and a book that have grown, and merged.
-use Rattle.std.proofs.Common.{◌≡◌, ◌⊎◌, ℕ, Bool, true, false, List, Some, slice_get, refl, sym, ap, subst, ◌∙◌, inl, inr}
-use Rattle.std.specs.Prelude.{◌||◌, Result, Ok, Err, IfOk}
+use Rattle.std.proofs.Common.{◌≡◌, ℕ, Bool, true, false, List, Some, refl, ap, ◌∙◌, inl, inr}
+use Rattle.std.specs.Prelude.{Result, Ok, Err, IfOk}
 use Rattle.std.specs.List.{Contains}
 use Rattle.std.specs.declared.alloc.AllocError.{AllocError}
 use Rattle.spec_space.specs.declared.Point.{Point}
@@ -10,12 +10,12 @@ use Rattle.spec_solid.specs.declared.BoolOp.TheVariants.{Union, Intersection, Di
 use Rattle.spec_solid.specs.Solids.{truth}
 use Rattle.plane_core.specs.declared.numbers.Plane.{Plane as BookPlane}
 use Rattle.tree_pool.specs.declared.node.TreeId.{TreeId}
-use Rattle.tree_pool.specs.Trees.{Tree, value_of, IsPlaneOf, IsOff}
+use Rattle.tree_pool.specs.Trees.{Tree, IsOff}
 use Rattle.tree_pool.specs.Pools.{Slots, StandsFor, IsLive, KeepsTrees, AreTrees}
 use Rattle.tree_pool.proofs.Laws.{value_kept}
 use Rattle.tree_merge.specs.declared.table.Table4.{Table4}
 use Rattle.tree_merge.specs.Tables.{entry, entry_of, IsMergeOf}
-use Rattle.triangle_trees.specs.Forms.{IsGrown, HasFormOf, IsOffAll, IsTreeOf}
+use Rattle.triangle_trees.specs.Forms.{IsGrown, IsOffAll, IsTreeOf}
 use Rattle.triangle_trees.proofs.Grown.{form_kept, form_same}
 use Rattle.triangle_trees.proofs.Wholes.{off_level}
 use Rattle.solid_tree.specs.Unions.{HasTree}

@@ -1,5 +1,5 @@
 -- Unions of solids, their planes and their meanings; nodes by their variants.
-use Rattle.std.proofs.Common.{◌≡◌, ℕ, ◌+◌, Bool, false, List, [], ◌∷◌, ◌++◌, map, refl, sym, ap, ap₂, subst, ◌∙◌, arith}
+use Rattle.std.proofs.Common.{◌≡◌, ◌+◌, Bool, List, [], ◌∷◌, ◌++◌, map, refl, sym, ap, ap₂, subst, ◌∙◌, arith}
 use Rattle.std.specs.Prelude.{◌||◌, Result, Ok, Err, IfOk}
 use Rattle.std.specs.declared.alloc.AllocError.{AllocError}
 use Rattle.std.proofs.lemmas.List.Elements.{Contains-append_left, Contains-append_right}
@@ -12,7 +12,7 @@ use Rattle.spec_solid.specs.Solids as solids
 use Rattle.spec_solid.specs.Planes.{solid_planes}
 use Rattle.grid_solid.specs.declared.nodes.GridNode.{GridNode}
 use Rattle.grid_solid.specs.declared.nodes.GridNode.TheVariants.{Combined, Union}
-use Rattle.grid_solid.specs.Shapes.{Shape, union_of, shape_solid}
+use Rattle.grid_solid.specs.Shapes.{union_of, shape_solid}
 use Rattle.grid_solid.specs.Views.{shape_of, solid_of}
 use Rattle.grid_solid.proofs.Folds.{shape-Combined, shape-Union}
 use Rattle.grid_solid.specs.Counts.{plane_count}

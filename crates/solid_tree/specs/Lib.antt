@@ -1,2 +1,4 @@
 pub mod Unions
 pub mod Elements
+pub mod Kept
+pub mod Cells

@@ -1,6 +1,6 @@
 -- Curves of straight lines (IFC4): their points in the plane, in nanometres. That an open curve is closed by a straight edge is a
 -- rule of this project.
-use Rattle.std.specs.Prelude.{ℕ, pos, ◌-◌, ◌*◌, ◌^◌, ◌/◌, ◌&&◌, nat_le, nat_eq, int_le, unsigned_abs, List, [], ◌∷◌, ◌++◌, map, length, drop, slice_index_or, Option, Some, None, Ok, Err, codes, if◌then◌else◌}
+use Rattle.std.specs.Prelude.{ℕ, pos, ◌-◌, ◌*◌, ◌^◌, ◌/◌, ◌&&◌, nat_le, nat_eq, int_le, unsigned_abs, List, [], ◌∷◌, ◌++◌, map, length, drop, slice_index_or, Option, Some, None, Ok, Err, codes, if◌then◌else◌, min}
 use Rattle.spec_num.specs.Decimals.{decimal_units}
 use Rattle.spec_space.specs.declared.Vector.{Vector}
 use Rattle.spec_step.specs.Spans.{bytes_at}
@@ -42,10 +42,10 @@ point_list file n = next (members file.section n 1) (each (pair file n))
 
 -- Segments of an IfcIndexedPolyCurve, whose points are so many.
 
--- the whole number that a decimal text is, if it is from 1 to a count
+-- the whole number that a decimal text is, if it is from 1 to a count and, as every number of a file, at most 10^9
 abbrev pub index_in : ℕ → ℕ → List ℕ → Read ℕ
 index_in n count text =
-    only_if (int_le (pos (10 ^ 12)) (decimal_units text) && int_le (decimal_units text) (pos (count * 10 ^ 12))) (BadAttribute n 2)
+    only_if (int_le (pos (10 ^ 12)) (decimal_units text) && int_le (decimal_units text) (pos (min count (10 ^ 9) * 10 ^ 12))) (BadAttribute n 2)
     (Ok (unsigned_abs (decimal_units text) / 10 ^ 12))
 
 abbrev pub layer_index : DataSection → ℕ → ℕ → Param-F Param → Read ℕ
@@ -56,7 +56,7 @@ layer_index section n count x = Err (BadAttribute n 2)
 abbrev pub index : DataSection → ℕ → ℕ → Param → Read ℕ
 index section n count p = layer_index section n count (out-Param (innermost p))
 
--- the indices of an IfcLineIndex, of which there must be two
+-- the indices of an IfcLineIndex, of which there must be at least two
 abbrev pub line_index : DataSection → ℕ → ℕ → Param → Read (List ℕ)
 line_index section n count p =
     next (as_read (read_list n 2 p)) (λ ps. only_if (nat_le 2 (length ps)) (BadAttribute n 2) (each (index section n count) ps))

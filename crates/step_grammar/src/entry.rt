@@ -7,7 +7,7 @@ use sqlite_items::{Boxed, Items};
 use std::alloc::{AllocError, Global};
 
 /// A parenthesis that stands open in an entry, and what was read in it up to the last comma.
-#[derive(Debug, Drop)]
+#[derive(Drop)]
 pub enum Frame {
     /// the parameters of the entry, and its keyword
     Entry(Span, Items<Param>),
@@ -18,7 +18,7 @@ pub enum Frame {
 }
 
 /// A place in an entry.
-#[derive(Debug, Drop)]
+#[derive(Drop)]
 pub enum Spot {
     /// behind the entry's keyword
     Named(Span),

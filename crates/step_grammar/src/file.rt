@@ -11,7 +11,7 @@ use std::alloc::{AllocError, Global};
 fn place_if(passes: bool, place: Place) -> Option<Place>
     ensures { result ≡ place_if passes place }
 {
-    if passes { Some(place) } else { None }
+    passes.then_some(place)
 }
 
 fn is_semicolon(symbol: Symbol) -> bool

@@ -3,7 +3,7 @@ use spec_step::{Entry, Instance};
 use sqlite_items::Items;
 
 /// The one token that is wanted between the parts of a file.
-#[derive(Clone, Copy, Debug, PartialEq, Eq)]
+#[derive(Clone, Copy)]
 pub enum Fixed {
     /// `ISO-10303-21`
     StartWord,
@@ -30,14 +30,14 @@ pub enum Fixed {
 }
 
 /// The number of an instance, and where it begins.
-#[derive(Clone, Copy, Debug, PartialEq, Eq)]
+#[derive(Clone, Copy)]
 pub struct Key {
     pub number: u64,
     pub from: usize,
 }
 
 /// A place in a file.
-#[derive(Debug, Drop)]
+#[derive(Drop)]
 pub enum Place {
     Fixed(Fixed),
     /// where a head entry or the end of the header is wanted
@@ -62,7 +62,7 @@ pub enum Place {
 
 /// What was read of a file: the parentheses that stand open in the entry that is read, the
 /// innermost last, and the head entries and instances that are whole.
-#[derive(Debug, Drop)]
+#[derive(Drop)]
 pub struct Progress {
     pub frames: Vec<Frame>,
     pub head: Items<Entry>,

@@ -1,7 +1,7 @@
 use spec_step::Span;
 
 /// What a keyword is to the grammar, its letters taken without case.
-#[derive(Clone, Copy, Debug, PartialEq, Eq)]
+#[derive(Clone, Copy, PartialEq, Eq)]
 pub enum Name {
     /// `HEADER`
     Header,
@@ -13,7 +13,7 @@ pub enum Name {
 }
 
 /// A parameter that is one token, and no reference.
-#[derive(Clone, Copy, Debug, PartialEq, Eq)]
+#[derive(Clone, Copy)]
 pub enum Atom {
     /// `$`
     Unset,
@@ -27,7 +27,7 @@ pub enum Atom {
 }
 
 /// A token, as the grammar sees it.
-#[derive(Clone, Copy, Debug, PartialEq, Eq)]
+#[derive(Clone, Copy)]
 pub enum Symbol {
     StartWord,
     EndWord,

@@ -4,6 +4,3 @@
 mod print;
 
 pub use print::print_file;
-
-#[cfg(test)]
-mod tests;

@@ -3,8 +3,6 @@
 
 mod index;
 mod table;
-#[cfg(test)]
-mod tests;
 mod typed_values;
 
 pub use spec_table::AttrFault;

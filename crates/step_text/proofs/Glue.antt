@@ -22,7 +22,8 @@ use Rattle.step_grammar.specs.declared.place.Progress.{Progress}
 use Rattle.step_grammar.specs.declared.entry.Frame.{Frame}
 use Rattle.step_grammar.specs.declared.place.Fixed.TheVariants.{StartWord}
 use Rattle.step_grammar.specs.declared.place.Place.TheVariants.{Fixed}
-use Rattle.std.proofs.Common.{Result, Ok, Err, IfOk, IfErr, IsErrAnd}
+use Rattle.std.proofs.Common.{Result, Ok, Err, IfOk, IfErr, IsErrAnd, is_err}
+use Rattle.std.proofs.lemmas.Bool.{true≢false}
 use Rattle.step_text.specs.Reading.{IsWhole, IsUnfinished}
 use Rattle.step_text.specs.declared.read.Trees.{Trees}
 use Rattle.step_grammar.specs.declared.place.Place.{Place}
@@ -214,6 +215,11 @@ pub end_fault : (s : List ℕ) (at : ℕ) (p : Place) (progress : Progress) (r :
     → IfErr r (λ fault. IsUnfinished p (length s) fault) → IfErr r (λ fault. IsCauseOrWant s fault)
 end_fault s at p progress (Ok t) h next u = tt
 end_fault s at p progress (Err fault) h next u = subst (λ x. IsCauseOrWant s x) (sym u.1) (end_cause s at (state p progress) h next u.0)
+
+-- an error owes nothing of what a value owes
+pub owes_nothing : {T E : Type 0} (r : Result T E) (P : T → Type 0) → is_err r ≡ true → IfOk r P
+owes_nothing (Ok x) P e = absurd (true≢false (sym e))
+owes_nothing (Err y) P e = tt
 
 -- an error that comes through a `?` as it is
 pub gives : {T : Type 0} (r : Result T StepFault) (P : StepFault → Type 0) (x : StepFault) → IsErrAnd r (λ e. e ≡ x) → P x → IfErr r P

@@ -5,7 +5,7 @@ use sqlite_items::Items;
 
 /// A file of ISO 10303-21 with one DATA section: its bytes, the entries of its header, and its
 /// instances in file order. Head and instances are those that the grammar gives for the bytes.
-#[derive(Debug, Drop)]
+#[derive(Drop)]
 pub struct StepFile<'a> {
     pub source: &'a [u8],
     pub head: Items<Entry>,

@@ -11,6 +11,3 @@ pub use file::StepFile;
 pub use parse::parse_file;
 pub use spec_step::{Body, Entry, Instance, Param, Span, StepFault, Token, TokenKind, TokenStep};
 pub use step_token::{bytes_at, next_token};
-
-#[cfg(test)]
-mod tests;

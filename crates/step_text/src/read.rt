@@ -15,7 +15,7 @@ use step_grammar::{Fixed, Place, Progress, is_too_deep, step, symbol_of};
 use step_token::next_token;
 
 /// The head entries and the instances of a file.
-#[derive(Debug, Drop)]
+#[derive(Drop)]
 pub struct Trees {
     pub head: Items<Entry>,
     pub instances: Items<Instance>,

@@ -10,6 +10,3 @@ mod next;
 pub use bytes::bytes_at;
 pub use next::next_token;
 pub use spec_step::{Span, Token, TokenKind, TokenStep};
-
-#[cfg(test)]
-mod tests;

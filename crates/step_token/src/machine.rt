@@ -6,7 +6,7 @@ ghost use Rattle.step_token.specs.Machine.{first_of, go, step_of, accepted_kind}
 use spec_step::TokenKind;
 
 /// What was read of a token so far.
-#[derive(Clone, Copy, Debug)]
+#[derive(Clone, Copy)]
 pub enum State {
     Start,
     Bang,

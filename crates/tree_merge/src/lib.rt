@@ -4,8 +4,6 @@
 mod next;
 mod step;
 mod table;
-#[cfg(test)]
-mod tests;
 mod walk;
 mod work;
 

@@ -3,7 +3,7 @@ use plane_core::PlaneId;
 use tree_pool::TreeId;
 
 /// Two trees that are to be merged.
-#[derive(Clone, Copy, Debug)]
+#[derive(Clone, Copy)]
 pub(crate) struct Pair {
     pub first: TreeId,
     pub second: TreeId,
@@ -17,7 +17,7 @@ pub(crate) struct Work {
 }
 
 /// How the merge of two trees begins: with one value, or with a plane and the trees in front of it and behind it.
-#[derive(Clone, Copy, Debug)]
+#[derive(Clone, Copy)]
 pub(crate) enum Next {
     Settled(bool),
     Divided {

@@ -34,8 +34,8 @@ fn loop_of(alloc: Global, places: &[Place]) -> Result<Loop, AllocError>
     Ok(Loop { points })
 }
 
-/// The face of three to eight places.
-fn face(alloc: Global, places: &[Place]) -> Result<Face, Fail>
+/// The face of three to eight places, with the number that a refusal of it names.
+pub(crate) fn face(alloc: Global, at: u64, places: &[Place]) -> Result<Face, Fail>
     ensures { IfOk result IsSmall }
 {
     if places.len() < 3 || places.len() > 8 {
@@ -43,7 +43,7 @@ fn face(alloc: Global, places: &[Place]) -> Result<Face, Fail>
     }
     let mut loops = Loops::new(alloc);
     loops.push(loop_of(alloc, places)?)?;
-    Ok(Face::of_loops(7, loops))
+    Ok(Face::of_loops(at, loops))
 }
 
 /// The places below some others, at one height.
@@ -68,12 +68,12 @@ pub(crate) fn push_prism(
     ensures { All IsSmall faces.new.items }
 {
     let bottom = lowered(alloc, top, low)?;
-    faces.push(face(alloc, bottom.as_slice())?)?;
-    faces.push(face(alloc, top)?)?;
+    faces.push(face(alloc, 7, bottom.as_slice())?)?;
+    faces.push(face(alloc, 7, top)?)?;
     for k in 0..top.len() {
         let next = if k + 1 < top.len() { k + 1 } else { 0 };
         let side = [bottom[k], bottom[next], top[next], top[k]];
-        faces.push(face(alloc, &side)?)?;
+        faces.push(face(alloc, 7, &side)?)?;
     }
     Ok(())
 }

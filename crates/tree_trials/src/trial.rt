@@ -6,10 +6,11 @@ ghost use Rattle.grid_solid.specs.Counts.{body_plane_count};
 ghost use Rattle.tree_pool.specs.Pools.{IsLive};
 ghost use Rattle.tree_trials.specs.Faces.{IsSmall};
 
+use crate::books::point;
 use grid_round::round_solid;
 use grid_solid::GridSolid;
 use ix_place::{Frame, Map};
-use plane_core::{Corner, Plane, PlaneBook, meet};
+use plane_core::PlaneBook;
 use solid_expr::{ElementSolid, Face, Item, Solid};
 use solid_tree::solid_tree;
 use std::alloc::{AllocError, Global};
@@ -62,14 +63,6 @@ fn rounded(alloc: Global, faces: Vec<Face>) -> Result<GridSolid, Fail>
     Ok(round_solid(alloc, &element, 1)?)
 }
 
-/// The point of so many eighths of a grid step along each axis.
-fn corner(x: u32, y: u32, z: u32) -> Option<Corner> {
-    let x = Plane::reduced(8, 0, 0, i128::from(x))?;
-    let y = Plane::reduced(0, 8, 0, i128::from(y))?;
-    let z = Plane::reduced(0, 0, 8, i128::from(z))?;
-    meet(&x, &y, &z)
-}
-
 impl Trial {
     /// The tree of the shell of some faces, on a grid with steps of a micrometre.
     pub(crate) fn of_faces(alloc: Global, faces: Vec<Face>) -> Result<Trial, Fail>
@@ -78,12 +71,13 @@ impl Trial {
         let solid = rounded(alloc, faces)?;
         let mut book = PlaneBook::new(alloc)?;
         let mut pool = Pool::new(alloc)?;
-        let tree = solid_tree(alloc, &mut book, &mut pool, &solid)?;
+        let tree = solid_tree(alloc, &mut book, &mut pool, &solid, &[])?;
         Ok(Trial { book, pool, tree })
     }
 
     /// Whether the point of so many eighths of a grid step is inside, or `None` on a plane.
     pub(crate) fn is_inside(&self, x: u32, y: u32, z: u32) -> Option<bool> {
-        value_at(&self.pool, self.tree, &self.book, &corner(x, y, z)?)
+        let place = [i64::from(x), i64::from(y), i64::from(z)];
+        value_at(&self.pool, self.tree, &self.book, &point(place, 8)?)
     }
 }

@@ -4,8 +4,6 @@
 mod forms;
 mod normals;
 mod planes;
-#[cfg(test)]
-mod tests;
 
 pub use forms::{Forms, TriangleForms};
 pub use planes::forms_of;

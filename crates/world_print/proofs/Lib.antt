@@ -3,3 +3,4 @@ pub mod Sizes
 pub mod Images
 pub mod Prints
 pub mod Copies
+pub mod Appended

@@ -1,4 +1,5 @@
-ghost use Rattle.std.specs.Prelude.{◌≡◌, ◌++◌, ◌<◌, ◌^◌, OnOk};
+ghost use Rattle.std.specs.Prelude.{◌≡◌, ◌++◌, ◌+◌, ◌<◌, ◌≤◌, ◌^◌, IsOk, is_ok, if◌then◌else◌};
+ghost use Rattle.std.specs.Vec.{vec_len, vec_capacity};
 ghost use Rattle.spec_page.specs.Lines.{six_digits, size_in_metres, metres};
 
 use std::alloc::AllocError;
@@ -18,9 +19,14 @@ fn six_digits(number: u128) -> [u8; 6]
     ]
 }
 
-/// Appends a size in micrometres in metres.
+/// Room for any number in metres: a sign, the metres in decimal, the point and six digits.
+const LONGEST: usize = 48;
+
+/// Appends a size in micrometres in metres, where there is room for all but a sign.
 fn put_size(page: &mut Vec<u8>, size: u128) -> Result<(), AllocError>
-    ensures { OnOk result (page.new.items ≡ page.old.items ++ size_in_metres size) }
+    requires { vec_len page.old + 47 ≤ vec_capacity page.old }
+    ensures text { page.new.items ≡ page.old.items ++ size_in_metres size }
+    ensures room { IsOk result }
 {
     let mut buffer = itoa::Buffer::new();
     page.extend_from_slice(buffer.format(size / 1_000_000).as_bytes())?;
@@ -32,10 +38,11 @@ fn put_size(page: &mut Vec<u8>, size: u128) -> Result<(), AllocError>
 ///
 /// # Errors
 ///
-/// Want of memory.
+/// Want of memory; then the page is as it was.
 pub fn metres(page: &mut Vec<u8>, micro: i128) -> Result<(), AllocError>
-    ensures { OnOk result (page.new.items ≡ page.old.items ++ metres micro) }
+    ensures { page.new.items ≡ (if is_ok result then page.old.items ++ metres micro else page.old.items) }
 {
+    page.reserve(LONGEST)?;
     if micro < 0 {
         page.push(b'-')?;
     }

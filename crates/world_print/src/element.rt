@@ -6,7 +6,7 @@ use ifc_kinds::Kind;
 use ix_place::Frame;
 
 /// The mesh of an element, ready to be written.
-#[derive(Debug, Drop)]
+#[derive(Drop)]
 pub struct ElementMesh {
     /// The number of the element's instance in its file.
     pub number: u64,

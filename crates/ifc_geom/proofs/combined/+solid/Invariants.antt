@@ -12,11 +12,14 @@ decreases-solid l = 4 * l.deeper
 abbrev pub decreases-solid_by : goal.decreases-solid_by
 decreases-solid_by l = 4 * l.deeper + 3
 
+abbrev pub decreases-operand : goal.decreases-operand
+decreases-operand l = 4 * l.deeper + 1
+
 abbrev pub decreases-boolean_result : goal.decreases-boolean_result
-decreases-boolean_result l = 4 * l.deeper + 1
+decreases-boolean_result l = 4 * l.deeper + 2
 
 abbrev pub decreases-csg_solid : goal.decreases-csg_solid
-decreases-csg_solid l = 4 * l.deeper + 1
+decreases-csg_solid l = 4 * l.deeper + 2
 
 abbrev pub decreases-mapped_item : goal.decreases-mapped_item
 decreases-mapped_item l = 4 * l.deeper + 2

@@ -1,8 +1,47 @@
-use Rattle.std.proofs.Common.{FitsSigned, arith}
+use Rattle.std.proofs.Common.{[], ◌∷◌, ◌++◌, FitsSigned, codes, arith}
 use Rattle.std.proofs.lemmas.Int.{to_z-of_z, ints}
 use mir.Syntax.{w128}
-use Rattle.obj_text.proofs.Texts.{joined_four}
+use Rattle.spec_page.specs.Lines.{spaced, spaced_three}
+use Rattle.world_print.proofs.Appended.{refused, begun_four, one_more, stopped, stopped_in, complete}
 use Rattle.obj_text.proofs.lines.put_exact.Goals as goal
+
+pub returns-in_err-put_three : goal.returns-in_err-put_three
+returns-in_err-put_three c =
+    let x : FitsSigned w128 c.args.point.now.x = omega (arith, ints) in
+    let y : FitsSigned w128 c.args.point.now.y = omega (arith, ints) in
+    let z : FitsSigned w128 c.args.point.now.z = omega (arith, ints) in
+    refused c.from_residual-in_err-put_three.result c.from_residual-in_err-put_three.ensures.0
+    (stopped_in (spaced_three c.args.point.now.x c.args.point.now.y c.args.point.now.z) (spaced c.args.point.now.w ++ 10 ∷ [])
+    (one_more (codes "#c") (begun_four (codes "#c") (spaced_three c.args.point.now.x c.args.point.now.y c.args.point.now.z) (spaced c.args.point.now.w) (10 ∷ [])) c.in_ok-extend_from_slice.ensures.items)
+    (simp to_z-of_z at c.in_err-put_three.ensures))
+
+pub returns-in_err-put_spaced : goal.returns-in_err-put_spaced
+returns-in_err-put_spaced c =
+    let x : FitsSigned w128 c.args.point.now.x = omega (arith, ints) in
+    let y : FitsSigned w128 c.args.point.now.y = omega (arith, ints) in
+    let z : FitsSigned w128 c.args.point.now.z = omega (arith, ints) in
+    let w : FitsSigned w128 c.args.point.now.w = omega (arith, ints) in
+    refused c.from_residual-in_err-put_spaced.result c.from_residual-in_err-put_spaced.ensures.0
+    (stopped_in (spaced c.args.point.now.w) (10 ∷ [])
+    (one_more (spaced_three c.args.point.now.x c.args.point.now.y c.args.point.now.z)
+    (one_more (codes "#c") (begun_four (codes "#c") (spaced_three c.args.point.now.x c.args.point.now.y c.args.point.now.z) (spaced c.args.point.now.w) (10 ∷ [])) c.in_ok-extend_from_slice.ensures.items)
+    (simp to_z-of_z at c.in_ok-put_three.ensures))
+    (simp to_z-of_z at c.in_err-put_spaced.ensures))
+
+pub returns-in_err-push : goal.returns-in_err-push
+returns-in_err-push c =
+    let x : FitsSigned w128 c.args.point.now.x = omega (arith, ints) in
+    let y : FitsSigned w128 c.args.point.now.y = omega (arith, ints) in
+    let z : FitsSigned w128 c.args.point.now.z = omega (arith, ints) in
+    let w : FitsSigned w128 c.args.point.now.w = omega (arith, ints) in
+    refused c.from_residual-in_err-push.result c.from_residual-in_err-push.ensures.0
+    (stopped
+    (one_more (spaced c.args.point.now.w)
+    (one_more (spaced_three c.args.point.now.x c.args.point.now.y c.args.point.now.z)
+    (one_more (codes "#c") (begun_four (codes "#c") (spaced_three c.args.point.now.x c.args.point.now.y c.args.point.now.z) (spaced c.args.point.now.w) (10 ∷ [])) c.in_ok-extend_from_slice.ensures.items)
+    (simp to_z-of_z at c.in_ok-put_three.ensures))
+    (simp to_z-of_z at c.in_ok-put_spaced.ensures))
+    c.in_err-push.ensures.items)
 
 pub returns : goal.returns
 returns c =
@@ -10,5 +49,11 @@ returns c =
     let y : FitsSigned w128 c.args.point.now.y = omega (arith, ints) in
     let z : FitsSigned w128 c.args.point.now.z = omega (arith, ints) in
     let w : FitsSigned w128 c.args.point.now.w = omega (arith, ints) in
-    joined_four _ _ _ _ _ _ _ _ _ c.in_ok-extend_from_slice.ensures.items (simp to_z-of_z at c.in_ok-put_three.ensures)
-    (simp to_z-of_z at c.in_ok-put_spaced.ensures) c.in_ok-push.ensures.items
+    complete
+    (one_more (10 ∷ [])
+    (one_more (spaced c.args.point.now.w)
+    (one_more (spaced_three c.args.point.now.x c.args.point.now.y c.args.point.now.z)
+    (one_more (codes "#c") (begun_four (codes "#c") (spaced_three c.args.point.now.x c.args.point.now.y c.args.point.now.z) (spaced c.args.point.now.w) (10 ∷ [])) c.in_ok-extend_from_slice.ensures.items)
+    (simp to_z-of_z at c.in_ok-put_three.ensures))
+    (simp to_z-of_z at c.in_ok-put_spaced.ensures))
+    c.in_ok-push.ensures.items)

@@ -1,13 +1,3 @@
-use Rattle.std.proofs.Common.{Bool, List}
-use Rattle.std.proofs.lemmas.Result.{IfOk-weaker}
-use Rattle.spec_space.specs.declared.Plane.{Plane}
-use Rattle.spec_space.specs.declared.Point.{Point}
-use Rattle.spec_solid.specs.Solids.{truth}
-use Rattle.tree_pool.specs.declared.node.TreeId.{TreeId}
-use Rattle.tree_pool.specs.Trees.{Tree}
-use Rattle.tree_pool.specs.Pools.{StandsFor, IsLive}
-use Rattle.tree_merge.specs.Tables.{IsMergeOf}
-use Rattle.solid_tree.specs.Unions.{HasTree}
 use Rattle.solid_tree.proofs.Trees.{merged_has}
 use Rattle.solid_tree.proofs.unions.combined.Goals as goal
 

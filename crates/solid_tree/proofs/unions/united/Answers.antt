@@ -1,4 +1,4 @@
-use Rattle.std.proofs.Common.{◌≡◌, [], ◌∷◌, ◌++◌, sym, ap, subst, ◌∙◌, arith}
+use Rattle.std.proofs.Common.{◌≡◌, ◌∷◌, sym, ap, subst, ◌∙◌, arith}
 use Rattle.tree_pool.proofs.Laws.{live_kept}
 use Rattle.solid_tree.specs.Unions.{AreUnited}
 use Rattle.solid_tree.proofs.Lists.{first_of, united_round, live_round, united_last, united_empty, no_items}
