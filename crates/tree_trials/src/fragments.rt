@@ -120,14 +120,22 @@ const CUTS: [(u32, &[Place], &[Place]); 7] = [
     (17, &ALL, &[]),
 ];
 
+/// The corners of what lies of the square in front of the plane of a number, and of what lies behind it.
+fn cut_places(
+    alloc: Global,
+    book: &PlaneBook,
+    by: u32,
+) -> Result<(Vec<Place>, Vec<Place>), AllocError> {
+    let square = square(alloc, book)?;
+    let (front, back) = parts(alloc, book, &square, by)?;
+    Ok((places(alloc, book, &front)?, places(alloc, book, &back)?))
+}
+
 #[test]
 fn cuts_a_square(rt: HostRuntime) -> Result<(), AllocError> {
     let book = book_of(rt.alloc(), &PLANES)?;
-    let square = square(rt.alloc(), &book)?;
     for (by, in_front, behind) in CUTS {
-        let (front, back) = parts(rt.alloc(), &book, &square, by)?;
-        let front = places(rt.alloc(), &book, &front)?;
-        let back = places(rt.alloc(), &book, &back)?;
+        let (front, back) = cut_places(rt.alloc(), &book, by)?;
         assert_eq!(rt;
             (front.as_slice(), back.as_slice()),
             (in_front, behind),
