@@ -10,8 +10,10 @@ use Rattle.ifc_kinds.specs.declared.kind.Kind.TheVariants as kind
 use Rattle.spec_refusal.specs.declared.Refusal.{Refusal}
 use Rattle.spec_refusal.specs.declared.Refusal.TheVariants.{TooDeep}
 use Rattle.spec_refusal.specs.Reads.{Read, next}
-use Rattle.spec_entity.specs.Reads.{as_read, instance_of_kinds}
-use Rattle.spec_geometry.specs.Placements.{placements, placements_to}
+use Rattle.spec_place.specs.Chains.{Link}
+use Rattle.spec_entity.specs.Reads.{as_read, instance_of_kinds, each}
+use Rattle.spec_geometry.specs.Files.{File}
+use Rattle.spec_geometry.specs.Placements.{placements_to, most_links, link, chain}
 use Rattle.ifc_axes.specs.Turned.{placement_read}
 
 -- the placements that stand before those found, which were found from the product on
@@ -56,11 +58,11 @@ some_left count found e differs few = elim (cases_lt found 64) [
 none_left : (count found : ℕ) → count ≡ found → count ≡ 64 → 64 - found ≡ 0
 none_left count found e full = omega arith
 
-pub refused : (section : DataSection) (product n count : ℕ) (parent : Option ℕ) (found : List ℕ) (refusal : Refusal)
+pub refused : (section : DataSection) (all : Read (List ℕ)) (n count : ℕ) (parent : Option ℕ) (found : List ℕ) (refusal : Refusal)
     → count ≡ length found → (count ≡ 64 → ⊥) → length found ≤ 64 → parent ≡ Some n
-    → placements section product ≡ before_found (placements_to (64 - length found) section parent) found
-    → Err refusal ≡ placement_read section n → placements section product ≡ Err refusal
-refused section product n count parent found refusal counted differs few named is fault =
+    → all ≡ before_found (placements_to (64 - length found) section parent) found
+    → Err refusal ≡ placement_read section n → all ≡ Err refusal
+refused section all n count parent found refusal counted differs few named is fault =
     is
     ∙ (λ i. before_found (placements_to (some_left count (length found) counted differs few i) section (named i)) found)
     ∙ ap (λ r. before_found r found) (steps_in (63 - length found) section n)
@@ -69,12 +71,12 @@ refused section product n count parent found refusal counted differs few named i
 one_left : (found now : List ℕ) (p : ℕ) → now ≡ found ++ p ∷ [] → 63 - length found ≡ 64 - length now
 one_left found now p grown = let longer = ap length grown ∙ length-append found (p ∷ []) in omega (arith, longer)
 
-pub goes_on : (section : DataSection) (product n count : ℕ) (parent : Option ℕ) (found now : List ℕ) (read : ℕ × Option ℕ)
+pub goes_on : (section : DataSection) (all : Read (List ℕ)) (n count : ℕ) (parent : Option ℕ) (found now : List ℕ) (read : ℕ × Option ℕ)
     → count ≡ length found → (count ≡ 64 → ⊥) → length found ≤ 64 → parent ≡ Some n
-    → placements section product ≡ before_found (placements_to (64 - length found) section parent) found
+    → all ≡ before_found (placements_to (64 - length found) section parent) found
     → Ok read ≡ placement_read section n → now ≡ found ++ read.0 ∷ []
-    → placements section product ≡ before_found (placements_to (64 - length now) section read.1) now
-goes_on section product n count parent found now read counted differs few named is placed grown =
+    → all ≡ before_found (placements_to (64 - length now) section read.1) now
+goes_on section all n count parent found now read counted differs few named is placed grown =
     is
     ∙ (λ i. before_found (placements_to (some_left count (length found) counted differs few i) section (named i)) found)
     ∙ ap (λ r. before_found r found) (steps_in (63 - length found) section n)
@@ -93,17 +95,17 @@ unfolding placements_to
 at_root zero section found = refl
 at_root (suc left) section found = refl
 
-pub all_found : (section : DataSection) (product left : ℕ) (parent : Option ℕ) (found : List ℕ) → parent ≡ None
-    → placements section product ≡ before_found (placements_to left section parent) found → placements section product ≡ Ok (reverse found)
-all_found section product left parent found none is = is ∙ ap (λ o. before_found (placements_to left section o) found) none ∙ at_root left section found
+pub all_found : (section : DataSection) (all : Read (List ℕ)) (left : ℕ) (parent : Option ℕ) (found : List ℕ) → parent ≡ None
+    → all ≡ before_found (placements_to left section parent) found → all ≡ Ok (reverse found)
+all_found section all left parent found none is = is ∙ ap (λ o. before_found (placements_to left section o) found) none ∙ at_root left section found
 
 at_limit : (section : DataSection) (n : ℕ) (found : List ℕ) → before_found (placements_to 0 section (Some n)) found ≡ Err (TooDeep n)
 unfolding placements_to
 at_limit section n found = refl
 
-pub too_deep : (section : DataSection) (product n count : ℕ) (parent : Option ℕ) (found : List ℕ) → count ≡ length found → count ≡ 64 → parent ≡ Some n
-    → placements section product ≡ before_found (placements_to (64 - length found) section parent) found → placements section product ≡ Err (TooDeep n)
-too_deep section product n count parent found counted full named is =
+pub too_deep : (section : DataSection) (all : Read (List ℕ)) (n count : ℕ) (parent : Option ℕ) (found : List ℕ) → count ≡ length found → count ≡ 64 → parent ≡ Some n
+    → all ≡ before_found (placements_to (64 - length found) section parent) found → all ≡ Err (TooDeep n)
+too_deep section all n count parent found counted full named is =
     is
     ∙ (λ i. before_found (placements_to (none_left count (length found) counted full i) section (named i)) found)
     ∙ at_limit section n found
@@ -116,3 +118,16 @@ turned_simple section found turned now is same simple =
 pub one_more_simple : (section : DataSection) (p : ℕ) (found now : List ℕ) → now ≡ found ++ p ∷ [] → All (IsSimple section) found → IsSimple section p → All (IsSimple section) now
 one_more_simple section p found now grown simple h =
     subst (All (IsSimple section)) (sym grown) (All-append (IsSimple section) found (p ∷ []) simple (All-cons (IsSimple section) p [] h (All-nil (IsSimple section))))
+
+none_to : (section : DataSection) → placements_to most_links section None ≡ Ok []
+unfolding placements_to
+none_to section = refl
+
+-- the chain of a product without a placement is empty
+pub unplaced : (file : File) (product : ℕ) (parent : Option ℕ) (links : List Link) → Ok parent ≡ as_read (attr_ref file.section product 6) → parent ≡ None → links ≡ []
+    → chain file product ≡ Ok links
+unplaced file product parent links is none empty =
+    ap (λ r. next (next r (placements_to most_links file.section)) (each (link file))) (sym is)
+    ∙ ap (λ o. next (placements_to most_links file.section o) (each (link file))) none
+    ∙ ap (λ r. next r (each (link file))) (none_to file.section)
+    ∙ ap Ok (sym empty)

@@ -1,12 +1,13 @@
-ghost use Rattle.std.specs.Prelude.{◌≡◌, All, IfOk};
+ghost use Rattle.std.specs.Prelude.{◌≡◌, Some, All, IfOk};
 ghost use Rattle.spec_table.specs.Sections.{IsSimple};
+ghost use Rattle.spec_table.specs.Attributes.{attr_ref};
 ghost use Rattle.spec_refusal.specs.Reads.{next};
-ghost use Rattle.spec_entity.specs.Reads.{each};
+ghost use Rattle.spec_entity.specs.Reads.{as_read, each};
 ghost use Rattle.spec_geometry.specs.Files.{placed};
 ghost use Rattle.spec_geometry.specs.Axes.{named_axes};
-ghost use Rattle.spec_geometry.specs.Placements.{placements, link, chain, world_frame, opening_frame};
+ghost use Rattle.spec_geometry.specs.Placements.{placements_to, most_links, link, chain, world_frame, opening_frame};
 ghost use Rattle.ifc_numbers.specs.Measures.{file_of};
-ghost use Rattle.ifc_numbers.specs.Answers.{ReadsList};
+ghost use Rattle.ifc_numbers.specs.Answers.{ReadsList, WantsMemoryOnlyFor};
 ghost use Rattle.ifc_axes.specs.Turned.{ReadsTurned, placement_read};
 
 use crate::frames::named_axes;
@@ -28,14 +29,13 @@ fn placement_at(table: &Table<'_>, number: u64) -> Result<(u64, Option<u64>), Re
     Ok((placement, parent))
 }
 
-/// The placements of a product, from its own to the root.
-fn placements(alloc: Global, table: &Table<'_>, product: u64) -> Result<Vec<u64>, ItemFault>
-    requires { IsSimple table.now product }
-    ensures value { ReadsTurned result (placements table.now product) }
+/// The placements from one to the root.
+fn placements_from(alloc: Global, table: &Table<'_>, first: u64) -> Result<Vec<u64>, ItemFault>
+    ensures value { ReadsTurned result (placements_to most_links table.now (Some first)) }
     ensures simple { IfOk result (λ found. All (IsSimple table.now) found.items) }
 {
     let mut found = Vec::new(alloc);
-    let mut parent = reference_if_set(table, product, 6)?;
+    let mut parent = Some(first);
     while let Some(number) = parent {
         if found.len() == 64 {
             return Err(ItemFault::Refused(Refusal::TooDeep { at: number }));
@@ -74,13 +74,27 @@ fn links(
     Ok(links)
 }
 
+/// The chain of the placements from one to the root, from the root.
+fn chain_from(
+    alloc: Global,
+    table: &Table<'_>,
+    g: &GeomIn,
+    first: u64,
+) -> Result<Vec<(u64, Frame)>, ItemFault>
+    ensures { ReadsList result (next (placements_to most_links table.now (Some first)) (each (link (file_of table.now g.now)))) }
+{
+    let mut numbers = placements_from(alloc, table, first)?;
+    numbers.reverse();
+    links(alloc, table, g, &numbers)
+}
+
 /// The chain of a product's placements (IfcLocalPlacement) from the root, each with the frame of its own RelativePlacement; at
 /// most 64. That of a product without a placement is empty.
 ///
 /// # Errors
 ///
 /// The first refusal in the order of reading: the placements from the product to the root, then their axes from the root on.
-/// Or `NoMemory`.
+/// Or `NoMemory`, which a product without a placement never wants.
 pub fn read_chain(
     alloc: Global,
     table: &Table<'_>,
@@ -88,11 +102,13 @@ pub fn read_chain(
     product: u64,
 ) -> Result<Vec<(u64, Frame)>, ItemFault>
     requires { IsSimple table.now product }
-    ensures { ReadsList result (chain (file_of table.now g.now) product) }
+    ensures value { ReadsList result (chain (file_of table.now g.now) product) }
+    ensures memory { WantsMemoryOnlyFor result (as_read (attr_ref table.now product 6)) }
 {
-    let mut numbers = placements(alloc, table, product)?;
-    numbers.reverse();
-    links(alloc, table, g, &numbers)
+    match reference_if_set(table, product, 6)? {
+        Some(first) => chain_from(alloc, table, g, first),
+        None => Ok(Vec::new(alloc)),
+    }
 }
 
 /// The frame of a chain in the world; a refusal names the placement that is being added.

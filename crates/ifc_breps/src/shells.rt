@@ -1,8 +1,10 @@
 ghost use Rattle.std.specs.Prelude.{◌≡◌, ◌≤◌, ◌++◌, ◌∷◌, [], OnOk, IfOk};
 ghost use Rattle.spec_table.specs.Sections.{IsSimple};
+ghost use Rattle.spec_entity.specs.Reads.{members};
 ghost use Rattle.spec_geometry.specs.Breps.{each_counted, member_face, shell, outer_shell, member_shell, faces_with_voids, brep_faces};
 ghost use Rattle.ifc_numbers.specs.Measures.{file_of};
-ghost use Rattle.ifc_breps.specs.Shells.{with_shells, ReadsFaces};
+ghost use Rattle.ifc_numbers.specs.Answers.{WantsMemoryOnlyWhere};
+ghost use Rattle.ifc_breps.specs.Shells.{outer_members, with_shells, ReadsFaces};
 
 use crate::faces::member_face;
 use entity_reader::{has_kind, instance_of_kinds, member_instance, members, named_instance};
@@ -55,6 +57,7 @@ fn shell(
     requires count { count ≤ 4096 }
     ensures value { ReadsFaces result (shell (file_of table.now g.now) at count) }
     ensures few { IfOk result (λ read. read.1 ≤ 4096) }
+    ensures memory { WantsMemoryOnlyWhere result (members table.now at 1) }
 {
     faces(alloc, table, g, at, members(table, at, 1)?, count)
 }
@@ -71,6 +74,7 @@ fn outer_shell(
     requires count { count ≤ 4096 }
     ensures value { ReadsFaces result (outer_shell (file_of table.now g.now) at count) }
     ensures few { IfOk result (λ read. read.1 ≤ 4096) }
+    ensures memory { WantsMemoryOnlyWhere result (outer_members table.now at) }
 {
     let number = named_instance(table, &[Kind::ClosedShell], at, 1)?;
     shell(alloc, table, g, number, count)
@@ -130,6 +134,7 @@ fn faces_with_voids(
     requires count { count ≤ 4096 }
     ensures value { ReadsFaces result (faces_with_voids (file_of table.now g.now) at count) }
     ensures few { IfOk result (λ read. read.1 ≤ 4096) }
+    ensures memory { WantsMemoryOnlyWhere result (outer_members table.now at) }
 {
     let (outer, reached) = outer_shell(alloc, table, g, at, count)?;
     with_shells(alloc, table, g, at, outer, members(table, at, 2)?, reached)
@@ -140,7 +145,7 @@ fn faces_with_voids(
 ///
 /// # Errors
 ///
-/// The first refusal in the order of reading, or `NoMemory`.
+/// The first refusal in the order of reading, or `NoMemory`: only where the list of the outer shell is read and has a member.
 pub fn brep_faces(
     alloc: Global,
     table: &Table<'_>,
@@ -152,6 +157,7 @@ pub fn brep_faces(
     requires count { count ≤ 4096 }
     ensures value { ReadsFaces result (brep_faces (file_of table.now g.now) at count) }
     ensures few { IfOk result (λ read. read.1 ≤ 4096) }
+    ensures memory { WantsMemoryOnlyWhere result (outer_members table.now at) }
 {
     if has_kind(table, at, Kind::FacetedBrep) {
         return outer_shell(alloc, table, g, at, count);

@@ -2,12 +2,13 @@ ghost use Rattle.std.specs.Prelude.{◌≡◌, ◌≤◌, ◌^◌, length, is_no
 ghost use Rattle.spec_place.specs.Vectors.{IsWithin};
 ghost use Rattle.spec_table.specs.Sections.{IsSimple};
 ghost use Rattle.spec_table.specs.Attributes.{attribute};
-ghost use Rattle.spec_entity.specs.Reads.{each};
+ghost use Rattle.spec_entity.specs.Reads.{each, members};
 ghost use Rattle.spec_geometry.specs.Points as planes;
-ghost use Rattle.spec_geometry.specs.Curves.{member_point, polyline, pair, point_list, points_by_segments, indexed_curve, curve_points, curve, named_curve};
+ghost use Rattle.spec_geometry.specs.Curves.{member_point, polyline, pair, points_by_segments, indexed_curve, curve_points, curve, named_curve};
 ghost use Rattle.ifc_numbers.specs.Measures.{file_of};
-ghost use Rattle.ifc_numbers.specs.Answers.{ReadsAs};
+ghost use Rattle.ifc_numbers.specs.Answers.{ReadsAs, WantsMemoryOnlyWhere};
 ghost use Rattle.ifc_curves.specs.Segments.{segmented};
+ghost use Rattle.ifc_curves.specs.Points.{listed_points, curve_members, named_members};
 
 use crate::points::Points;
 use crate::segments::segments;
@@ -59,7 +60,8 @@ fn plane_points(
 /// The points of a polyline (IfcPolyline).
 fn polyline(alloc: Global, table: &Table<'_>, g: &GeomIn, at: u64) -> Result<Points, ItemFault>
     requires { IsSimple table.now at }
-    ensures { ReadsAs (λ points. points) result (polyline (file_of table.now g.now) at) }
+    ensures value { ReadsAs (λ points. points) result (polyline (file_of table.now g.now) at) }
+    ensures memory { WantsMemoryOnlyWhere result (members table.now at 1) }
 {
     plane_points(alloc, table, g, at, members(table, at, 1)?)
 }
@@ -95,14 +97,6 @@ fn pairs(
         points.push(pair(table, g, at, p)?)?;
     }
     Ok(points)
-}
-
-/// The points of a list (IfcCartesianPointList2D).
-fn point_list(alloc: Global, table: &Table<'_>, g: &GeomIn, at: u64) -> Result<Points, ItemFault>
-    requires { IsSimple table.now at }
-    ensures { ReadsAs (λ points. points) result (point_list (file_of table.now g.now) at) }
-{
-    pairs(alloc, table, g, at, members(table, at, 1)?)
 }
 
 /// Whether an attribute is unset.
@@ -145,20 +139,23 @@ fn points_by_segments(
     points_of_segments(alloc, table, at, &points)
 }
 
-/// The points of a curve of segments (IfcIndexedPolyCurve).
+/// The points of a curve of segments (IfcIndexedPolyCurve), whose list (IfcCartesianPointList2D) has them all.
 fn indexed_curve(alloc: Global, table: &Table<'_>, g: &GeomIn, at: u64) -> Result<Points, ItemFault>
     requires { IsSimple table.now at }
-    ensures { ReadsAs (λ points. points) result (indexed_curve (file_of table.now g.now) at) }
+    ensures value { ReadsAs (λ points. points) result (indexed_curve (file_of table.now g.now) at) }
+    ensures memory { WantsMemoryOnlyWhere result (listed_points table.now at) }
 {
     let list = named_instance(table, &[Kind::CartesianPointList2d], at, 1)?;
-    let points = point_list(alloc, table, g, list)?;
+    let listed = members(table, list, 1)?;
+    let points = pairs(alloc, table, g, list, listed)?;
     points_by_segments(alloc, table, at, points)
 }
 
 /// The points of a curve.
 fn curve_points(alloc: Global, table: &Table<'_>, g: &GeomIn, at: u64) -> Result<Points, ItemFault>
     requires { IsSimple table.now at }
-    ensures { ReadsAs (λ points. points) result (curve_points (file_of table.now g.now) at) }
+    ensures value { ReadsAs (λ points. points) result (curve_points (file_of table.now g.now) at) }
+    ensures memory { WantsMemoryOnlyWhere result (curve_members table.now at) }
 {
     if has_kind(table, at, Kind::Polyline) {
         return polyline(alloc, table, g, at);
@@ -171,12 +168,13 @@ fn curve_points(alloc: Global, table: &Table<'_>, g: &GeomIn, at: u64) -> Result
 ///
 /// # Errors
 ///
-/// The first refusal in the order of reading, or `NoMemory`.
+/// The first refusal in the order of reading, or `NoMemory`: only where the list in which its points stand is read and has one.
 pub fn curve(alloc: Global, table: &Table<'_>, g: &GeomIn, at: u64) -> Result<Loop, ItemFault>
     requires { IsSimple table.now at }
     ensures value { ReadsAs (λ l. l) result (curve (file_of table.now g.now) at) }
     ensures long { IfOk result (λ l. 3 ≤ length l) }
     ensures within { IfOk result (λ l. All (IsWithin (10 ^ 16)) l) }
+    ensures memory { WantsMemoryOnlyWhere result (curve_members table.now at) }
 {
     let points = curve_points(alloc, table, g, at)?;
     Ok(points.into_loop(at)?)
@@ -186,7 +184,7 @@ pub fn curve(alloc: Global, table: &Table<'_>, g: &GeomIn, at: u64) -> Result<Lo
 ///
 /// # Errors
 ///
-/// The first refusal in the order of reading, or `NoMemory`.
+/// The first refusal in the order of reading, or `NoMemory`: only where the list in which its points stand is read and has one.
 pub fn named_curve(
     alloc: Global,
     table: &Table<'_>,
@@ -199,6 +197,7 @@ pub fn named_curve(
     ensures value { ReadsAs (λ l. l) result (named_curve (file_of table.now g.now) at position) }
     ensures long { IfOk result (λ l. 3 ≤ length l) }
     ensures within { IfOk result (λ l. All (IsWithin (10 ^ 16)) l) }
+    ensures memory { WantsMemoryOnlyWhere result (named_members table.now at position) }
 {
     let number = named_instance(table, &CURVE_KINDS, at, position)?;
     curve(alloc, table, g, number)

@@ -1,5 +1,5 @@
 -- What the answers of the reader stand for in the definitions.
-use Rattle.std.specs.Prelude.{⊤, ℕ, List, map, Vec, Option, Some, None, Result, Ok, Err}
+use Rattle.std.specs.Prelude.{ℕ, List, map, Vec, Option, Result, Ok, Err}
 use Rattle.std.specs.Borrow.{Bor}
 use Rattle.std.specs.Option.{option_map}
 use Rattle.spec_step.specs.declared.tree.Param.{Param}
@@ -12,7 +12,6 @@ use Rattle.solid_expr.specs.declared.solid.Item.{Item}
 use Rattle.solid_expr.specs.declared.solid.ElementSolid.{ElementSolid}
 use Rattle.solid_expr.specs.Views.{item_of, element_of}
 use Rattle.ifc_numbers.specs.declared.faults.ItemFault.{ItemFault}
-use Rattle.ifc_numbers.specs.declared.faults.ItemFault.TheVariants.{Refused, NoMemory}
 use Rattle.ifc_numbers.specs.Answers.{ReadsAs}
 
 -- an answer that lends a list of parameters
@@ -30,11 +29,3 @@ ReadsItems result wanted = ReadsAs (λ read. (map item_of read.0.items, read.1))
 -- the element is that of the definition, or memory is wanting
 abbrev pub ReadsBody : Result (Option ElementSolid) ItemFault → Read (Option ElementShape) → Type 0
 ReadsBody result wanted = ReadsAs (option_map element_of) result wanted
-
--- memory is wanting only where a representation is read
-abbrev pub WantsMemoryOnlyFor : Result (Option ElementSolid) ItemFault → Read (Option Representation) → Type 0
-WantsMemoryOnlyFor (Err NoMemory) (Ok (Some r)) = ⊤
-WantsMemoryOnlyFor (Err NoMemory) (Ok None) = ⊥
-WantsMemoryOnlyFor (Err NoMemory) (Err refusal) = ⊥
-WantsMemoryOnlyFor (Err (Refused refusal)) read = ⊤
-WantsMemoryOnlyFor (Ok body) read = ⊤

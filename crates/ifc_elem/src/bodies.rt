@@ -1,11 +1,14 @@
 ghost use Rattle.std.specs.Prelude.{◌≡◌, ◌≤◌, All, Some, Ok, IfOk, IfSome};
 ghost use Rattle.spec_table.specs.Sections.{IsSimple};
+ghost use Rattle.spec_refusal.specs.Reads.{next};
 ghost use Rattle.spec_shape.specs.Shapes.{ElementShape, element_count};
+ghost use Rattle.spec_entity.specs.Reads.{named_instance};
 ghost use Rattle.spec_entity.specs.Elements.{representation};
-ghost use Rattle.spec_geometry.specs.Elements.{items, opening_items, openings, shape_of_body, element_body};
+ghost use Rattle.spec_geometry.specs.Elements.{items, opening_kinds, opening_items, openings, shape_of_body, element_body};
 ghost use Rattle.solid_expr.specs.Views.{element_of};
 ghost use Rattle.ifc_numbers.specs.Measures.{file_of};
-ghost use Rattle.ifc_elem.specs.Views.{ReadsItems, ReadsBody, WantsMemoryOnlyFor};
+ghost use Rattle.ifc_numbers.specs.Answers.{WantsMemoryOnlyFor};
+ghost use Rattle.ifc_elem.specs.Views.{ReadsItems, ReadsBody};
 ghost use Rattle.ifc_elem.specs.Voiding.{IsIndexOf};
 
 use crate::openings::Openings;
@@ -60,6 +63,7 @@ fn opening_items(
     requires count { count ≤ 4096 }
     ensures value { ReadsItems result (opening_items (file_of table.now g.now) element.now relation count) }
     ensures few { IfOk result (λ read. read.1 ≤ 4096) }
+    ensures memory { WantsMemoryOnlyFor result (next (named_instance table.now opening_kinds relation 6) (representation table.now)) }
 {
     let kinds = [Kind::OpeningElement, Kind::OpeningStandardCase];
     let opening = named_instance(table, &kinds, relation, 6)?;

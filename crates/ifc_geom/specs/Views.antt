@@ -1,7 +1,12 @@
 -- What the answers of the reader stand for in the definitions.
-use Rattle.std.specs.Prelude.{ℕ, List, map, Result, Ok, Err}
+use Rattle.std.specs.Prelude.{ℕ, nat_le, List, [], ◌∷◌, map, Result, Ok, Err}
+use Rattle.spec_table.specs.Sections.{DataSection}
+use Rattle.ifc_kinds.specs.declared.kind.Kind.{Kind}
+use Rattle.ifc_kinds.specs.declared.kind.Kind.TheVariants as kind
 use Rattle.spec_refusal.specs.declared.Refusal.{Refusal}
-use Rattle.spec_refusal.specs.Reads.{Read}
+use Rattle.spec_refusal.specs.declared.Refusal.TheVariants.{TooDeep}
+use Rattle.spec_refusal.specs.Reads.{Read, only_if}
+use Rattle.spec_entity.specs.Reads.{instance_of_kinds}
 use Rattle.spec_shape.specs.Shapes.{Shape}
 use Rattle.spec_geometry.specs.Profiles.{Counted}
 use Rattle.solid_expr.specs.declared.solid.Solid.{Solid}
@@ -27,3 +32,13 @@ ReadsSolids result wanted = ReadsAs shapes_and_count result wanted
 abbrev pub plain_solid : Result (Solid × ℕ) Refusal → Counted Shape
 plain_solid (Ok read) = Ok (shape_and_count read)
 plain_solid (Err refusal) = Err refusal
+
+-- the kinds of solids that take memory: all but the half-spaces that have no bounds
+abbrev pub memory_kinds : List Kind
+memory_kinds =
+    kind.ExtrudedAreaSolid ∷ kind.Block ∷ kind.FacetedBrep ∷ kind.FacetedBrepWithVoids ∷ kind.PolygonalBoundedHalfSpace
+    ∷ kind.BooleanResult ∷ kind.BooleanClippingResult ∷ kind.CsgSolid ∷ kind.MappedItem ∷ []
+
+-- an instance that has one of them, where so many solids may stand one in another
+abbrev pub takes_memory : ℕ → DataSection → ℕ → Read ℕ
+takes_memory deeper section n = only_if (nat_le 1 deeper) (TooDeep n) (instance_of_kinds section memory_kinds n)

@@ -1,10 +1,12 @@
 ghost use Rattle.std.specs.Prelude.{◌≡◌, ◌≤◌, ◌-◌, IfOk};
 ghost use Rattle.spec_table.specs.Sections.{IsSimple};
+ghost use Rattle.spec_entity.specs.Reads.{instance_of_kinds};
 ghost use Rattle.spec_entity.specs.Operators as operators;
 ghost use Rattle.spec_geometry.specs.Breps.{each_counted};
 ghost use Rattle.spec_geometry.specs.Solids.{solid, solid_by, operand, boolean_result, csg_solid, member_solid, mapped, mapped_item};
 ghost use Rattle.ifc_numbers.specs.Measures.{file_of};
-ghost use Rattle.ifc_geom.specs.Views.{ReadsSolid, ReadsSolids};
+ghost use Rattle.ifc_numbers.specs.Answers.{WantsMemoryOnlyWhere};
+ghost use Rattle.ifc_geom.specs.Views.{ReadsSolid, ReadsSolids, memory_kinds, takes_memory};
 
 use crate::half_spaces::{bounded_half_space, half_space};
 use crate::joined::joined;
@@ -67,6 +69,7 @@ fn solid(
     requires count { count ≤ 4096 }
     ensures value { ReadsSolid result (solid deeper (file_of table.now g.now) at map.now count) }
     ensures few { IfOk result (λ read. read.1 ≤ 4096) }
+    ensures memory { WantsMemoryOnlyWhere result (takes_memory deeper table.now at) }
 {
     if deeper == 0 {
         return Err(ItemFault::Refused(Refusal::TooDeep { at }));
@@ -88,6 +91,7 @@ fn solid_by(
     requires count { count ≤ 4096 }
     ensures value { ReadsSolid result (solid_by (file_of table.now g.now) (solid deeper (file_of table.now g.now)) at map.now count) }
     ensures few { IfOk result (λ read. read.1 ≤ 4096) }
+    ensures memory { WantsMemoryOnlyWhere result (instance_of_kinds table.now memory_kinds at) }
 {
     if has_kind(table, at, Kind::ExtrudedAreaSolid) {
         return extruded_area_solid(alloc, table, g, at, map, count);
@@ -253,7 +257,8 @@ fn mapped_item(
 ///
 /// # Errors
 ///
-/// The first refusal in the order of reading, `TooDeep` exactly where the depth passes 64, or `NoMemory`.
+/// The first refusal in the order of reading, `TooDeep` exactly where the depth passes 64, or `NoMemory`: not for a half-space
+/// without bounds, an instance of another kind than a solid's, or a depth past 64.
 pub fn read_solid(
     alloc: Global,
     table: &Table<'_>,
@@ -266,6 +271,7 @@ pub fn read_solid(
     requires { count ≤ 4096 }
     ensures value { ReadsSolid result (solid (65 - depth) (file_of table.now g.now) at map.now count) }
     ensures few { IfOk result (λ read. read.1 ≤ 4096) }
+    ensures memory { WantsMemoryOnlyWhere result (takes_memory (65 - depth) table.now at) }
 {
     solid(
         alloc,

@@ -1,9 +1,10 @@
 ghost use Rattle.std.specs.Prelude.{◌≡◌, ◌≤◌, ◌^◌, ◌*◌, IfOk};
 ghost use Rattle.spec_table.specs.Sections.{IsSimple};
-ghost use Rattle.spec_geometry.specs.Profiles.{profile, named_profile};
+ghost use Rattle.spec_entity.specs.Reads.{named_instance};
+ghost use Rattle.spec_geometry.specs.Profiles.{profile_kinds, profile, named_profile};
 ghost use Rattle.ix_profile.specs.Outlines.{IsOutline};
 ghost use Rattle.ifc_numbers.specs.Measures.{file_of};
-ghost use Rattle.ifc_numbers.specs.Answers.{ReadsAs};
+ghost use Rattle.ifc_numbers.specs.Answers.{ReadsAs, WantsMemoryOnlyWhere};
 
 use crate::curved::{closed_profile, profile_with_voids};
 use crate::measured::{hollow_profile, i_shape_profile, rectangle_profile};
@@ -58,7 +59,7 @@ fn profile(
 ///
 /// # Errors
 ///
-/// The first refusal in the order of reading, or `NoMemory`.
+/// The first refusal in the order of reading, or `NoMemory`: only where the instance has one of the kinds of profiles.
 pub fn named_profile(
     alloc: Global,
     table: &Table<'_>,
@@ -73,6 +74,7 @@ pub fn named_profile(
     ensures value { ReadsAs (λ read. read) result (named_profile (file_of table.now g.now) at position count) }
     ensures outline { IfOk result (λ read. IsOutline (3 * 10 ^ 16) read.0) }
     ensures few { IfOk result (λ read. read.1 ≤ 4096) }
+    ensures memory { WantsMemoryOnlyWhere result (named_instance table.now profile_kinds at position) }
 {
     let number = named_instance(table, &PROFILE_KINDS, at, position)?;
     profile(alloc, table, g, number, count)

@@ -1,6 +1,7 @@
-use Rattle.ifc_axes.proofs.Upwards.{turned_simple}
+use Rattle.ifc_numbers.specs.Measures.{file_of}
+use Rattle.ifc_axes.proofs.Upwards.{unplaced}
 use Rattle.ifc_axes.proofs.placements.read_chain.Goals as goal
 
-pub links-requires : goal.links-requires
-links-requires c =
-    turned_simple c.args.table.now c.in_ok-numbers.numbers.items c.reverse.new.self.items c.deref.result.now c.reverse.ensures.items c.deref.ensures.value c.in_ok-numbers.ensures.simple
+pub returns-in-None-clause-value : goal.returns-in-None-clause-value
+returns-in-None-clause-value c =
+    unplaced (file_of c.args.table.now c.args.g.now) c.args.product c.in_ok-first.field-0 c.new.result.items c.in_ok-first.ensures c.in-None.is c.new.ensures.items
