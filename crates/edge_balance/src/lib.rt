@@ -4,7 +4,5 @@
 mod balance;
 mod differences;
 mod edges;
-#[cfg(test)]
-mod tests;
 
 pub use balance::unbalanced;

@@ -9,8 +9,6 @@ mod mesh;
 mod outlines;
 mod round;
 mod sides;
-#[cfg(test)]
-mod tests;
 
 pub use mesh::cut_faces;
 pub use sides::Side;

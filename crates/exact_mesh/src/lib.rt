@@ -3,8 +3,6 @@
 #![tactic(auto)]
 
 mod mesh;
-#[cfg(test)]
-mod tests;
 mod vectors;
 mod volume;
 

@@ -5,7 +5,5 @@ mod directions;
 mod edges;
 mod faces;
 mod planes;
-#[cfg(test)]
-mod tests;
 
 pub use faces::{first_unsound, is_flat};

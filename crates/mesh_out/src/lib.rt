@@ -2,8 +2,6 @@
 #![tactic(auto)]
 
 mod off;
-#[cfg(test)]
-mod tests;
 mod text;
 mod writer;
 

@@ -8,7 +8,5 @@ mod line;
 mod numbers;
 mod refusals;
 mod template;
-#[cfg(test)]
-mod tests;
 
 pub use line::{Line, read_line};

@@ -8,8 +8,6 @@ mod decimals;
 mod element;
 mod finished;
 mod image;
-#[cfg(test)]
-mod tests;
 
 pub use decimals::metres;
 pub use element::ElementMesh;

@@ -2,7 +2,7 @@ use Rattle.std.proofs.Common.{[], ◌∷◌, All, sym, subst}
 use Rattle.std.proofs.lemmas.List.Elements.{All-cons, All-nil}
 use Rattle.plane_core.specs.declared.numbers.Corner.{Corner}
 use Rattle.world_print.specs.Ranges.{IsOnGrid}
-use Rattle.mesh_out.proofs.tests.four_corners.Goals as goal
+use Rattle.page_trials.proofs.meshes.four_corners.Goals as goal
 
 all_four : (a b c d : Corner) → IsOnGrid a → IsOnGrid b → IsOnGrid c → IsOnGrid d → All IsOnGrid (a ∷ (b ∷ (c ∷ (d ∷ []))))
 all_four a b c d p q r s =

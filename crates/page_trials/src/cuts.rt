@@ -1,7 +1,7 @@
 ghost use Rattle.std.specs.Prelude.{All, IfOk, IfSome, OnOk};
 ghost use Rattle.poly_frag.specs.Cycles.{IsCycle, IsFragment};
 
-use crate::cut_faces;
+use edge_cut::cut_faces;
 use exact_mesh::{ExactMesh, edge_count};
 use face_walk::OutFace;
 use plane_core::{Plane, PlaneBook, PlaneId};
@@ -179,6 +179,29 @@ fn is_at(mesh: &ExactMesh, number: usize, place: Place) -> bool {
     }
 }
 
+/// The mesh of the halves over planes.
+fn mesh_of(
+    alloc: Global,
+    planes: &[Option<Plane>],
+    front_out: bool,
+) -> Result<ExactMesh, AllocError> {
+    let book = book_with(alloc, planes)?;
+    let faces = halves(alloc, &book, front_out)?;
+    cut_faces(alloc, &book, &faces)
+}
+
+/// Whether the mesh over the planes has so many faces and corners, and its first face these corners.
+fn begins_with(
+    alloc: Global,
+    planes: &[Option<Plane>],
+    faces: usize,
+    corners: usize,
+    places: &[Place],
+) -> Result<bool, AllocError> {
+    let mesh = mesh_of(alloc, planes, true)?;
+    Ok(mesh.faces.len() == faces && mesh.corners.len() == corners && has_corners(&mesh, 0, places))
+}
+
 #[test]
 fn cuts_an_edge_where_two_faces_meet(rt: HostRuntime) -> Result<(), Fail> {
     let planes = [
@@ -186,10 +209,6 @@ fn cuts_an_edge_where_two_faces_meet(rt: HostRuntime) -> Result<(), Fail> {
         Plane::reduced(1, 0, 0, 0),
         Plane::reduced(0, 1, 0, 0),
     ];
-    let book = book_with(rt.alloc(), &planes)?;
-    let mesh = cut_faces(rt.alloc(), &book, &halves(rt.alloc(), &book, true)?)?;
-    assert_eq!(rt; mesh.faces.len(), 3);
-    assert_eq!(rt; mesh.corners.len(), 8);
     let left = [
         (-M, -M, 0, 1),
         (0, -M, 0, 1),
@@ -197,22 +216,34 @@ fn cuts_an_edge_where_two_faces_meet(rt: HostRuntime) -> Result<(), Fail> {
         (0, M, 0, 1),
         (-M, M, 0, 1),
     ];
-    assert!(rt; has_corners(&mesh, 0, &left));
+    assert!(rt; begins_with(rt.alloc(), &planes, 3, 8, &left)?);
     Ok(())
 }
 
-#[test]
-fn cuts_a_long_edge_in_order(rt: HostRuntime) -> Result<(), Fail> {
-    let planes = [
+/// The planes of a long edge, which three planes cut.
+fn long() -> [Option<Plane>; 5] {
+    [
         Plane::reduced(0, 0, 1, 0),
         Plane::reduced(1, 0, 0, 0),
         Plane::reduced(0, 1, 0, 5),
         Plane::reduced(0, 1, 0, 0),
         Plane::reduced(0, 1, 0, -7),
-    ];
-    let book = book_with(rt.alloc(), &planes)?;
-    let mesh = cut_faces(rt.alloc(), &book, &halves(rt.alloc(), &book, false)?)?;
-    assert_eq!(rt; mesh.faces.len(), 5);
+    ]
+}
+
+/// Whether the mesh seen from the back has five faces, and its first face these corners.
+fn begins_at_the_back(alloc: Global, places: &[Place]) -> Result<bool, AllocError> {
+    let mesh = mesh_of(alloc, &long(), false)?;
+    Ok(mesh.faces.len() == 5 && has_corners(&mesh, 0, places))
+}
+
+/// How often a directed edge stands in that mesh.
+fn count(alloc: Global, u: usize, v: usize) -> Result<u128, AllocError> {
+    Ok(edge_count(&mesh_of(alloc, &long(), false)?, u, v))
+}
+
+#[test]
+fn cuts_a_long_edge_in_order(rt: HostRuntime) -> Result<(), Fail> {
     // Seen from its back, the left half goes the other way round.
     let left = [
         (-M, M, 0, 1),
@@ -223,8 +254,8 @@ fn cuts_a_long_edge_in_order(rt: HostRuntime) -> Result<(), Fail> {
         (0, -M, 0, 1),
         (-M, -M, 0, 1),
     ];
-    assert!(rt; has_corners(&mesh, 0, &left));
-    for (u, v, count) in [
+    assert!(rt; begins_at_the_back(rt.alloc(), &left)?);
+    for (u, v, expected) in [
         (2, 3, 1),
         (3, 2, 1),
         (3, 4, 1),
@@ -233,9 +264,19 @@ fn cuts_a_long_edge_in_order(rt: HostRuntime) -> Result<(), Fail> {
         (0, 1, 1),
         (1, 0, 0),
     ] {
-        assert_eq!(rt; edge_count(&mesh, u, v), count);
+        assert!(rt; count(rt.alloc(), u, v)? == expected);
     }
     Ok(())
+}
+
+/// Whether the mesh over the planes has five faces, and its first face four corners and these, from its third on.
+fn holds_from_the_third(
+    alloc: Global,
+    planes: &[Option<Plane>],
+    places: &[Place],
+) -> Result<bool, AllocError> {
+    let mesh = mesh_of(alloc, planes, true)?;
+    Ok(mesh.faces.len() == 5 && has_between(&mesh, 0, 2, places))
 }
 
 #[test]
@@ -247,9 +288,6 @@ fn orders_corners_of_great_weight(rt: HostRuntime) -> Result<(), Fail> {
         Plane::reduced(2, 5, 67_108_777, -13),
         Plane::reduced(5, 1, 67_108_763, -14_000_000_000_001),
     ];
-    let book = book_with(rt.alloc(), &planes)?;
-    let mesh = cut_faces(rt.alloc(), &book, &halves(rt.alloc(), &book, true)?)?;
-    assert_eq!(rt; mesh.faces.len(), 5);
     // The weights pass 2^64.
     let inside = [
         (
@@ -271,6 +309,6 @@ fn orders_corners_of_great_weight(rt: HostRuntime) -> Result<(), Fail> {
             151_115_554_063_295_371_539_651,
         ),
     ];
-    assert!(rt; has_between(&mesh, 0, 2, &inside));
+    assert!(rt; holds_from_the_third(rt.alloc(), &planes, &inside)?);
     Ok(())
 }

@@ -3,7 +3,7 @@ use Rattle.std.proofs.lemmas.List.{length-map}
 use Rattle.std.proofs.lemmas.List.Elements.{All-map}
 use Rattle.exact_mesh.specs.Meshes.{numbered_plane}
 use Rattle.face_check.specs.Sizes.{IsSizedPlane}
-use Rattle.face_check.proofs.tests.triangle.Goals as goal
+use Rattle.page_trials.proofs.faces.triangle.Goals as goal
 
 three : (m n a b : ℕ) → m ≡ 3 → n ≡ 3 → a ≡ m → b ≡ n → a ≡ b
 three m n a b x y p q = omega arith
