@@ -8,11 +8,11 @@ ghost use Rattle.step_table.specs.Places.{first_place};
 
 use crate::index::places_of;
 use crate::typed_values::innermost;
-use indexmap::IndexMap;
 use ix_num::Decimal;
 use spec_step::{Body, Instance, Param};
 use spec_table::AttrFault;
 use std::alloc::{AllocError, Global};
+use std::collections::BTreeMap;
 use std::marker::Model;
 use step_text::{StepFile, bytes_at};
 
@@ -23,11 +23,11 @@ use step_text::{StepFile, bytes_at};
 #[derive(Drop)]
 pub struct Table<'a> {
     file: StepFile<'a>,
-    places: IndexMap<u64, usize>,
+    places: BTreeMap<u64, usize>,
 }
 
 impl<'a> Model for Table<'a> {
-    ghost use Rattle.std.specs.Prelude.{◌≡◌, ℕ, nat_eq};
+    ghost use Rattle.std.specs.Prelude.{◌≡◌, ℕ};
     ghost use Rattle.spec_table.specs.Sections.{DataSection};
 
     ghost Value = { DataSection };
@@ -37,14 +37,15 @@ impl<'a> Model for Table<'a> {
 
     ghost coded = { Prim.hlevel (codes, param.the_row.coded) };
 
-    ghost use Rattle.indexmap.specs.IndexMap.{get};
+    ghost use Rattle.std.specs.BTreeMap.{get};
+    ghost use Rattle.std.specs.Ordering.{nat_cmp};
     ghost use Rattle.spec_step.specs.Files.{HasDistinctNumbers};
     ghost use Rattle.step_table.specs.Places.{first_place};
 
     ghost view = { λ t. record { text = t.file.source.now; instances = t.file.instances } };
 
     ghost invariant = { λ t. HasDistinctNumbers t.file.instances
-        × ((n : ℕ) → get nat_eq t.places n ≡ first_place t.file.instances n) };
+        × ((n : ℕ) → get nat_cmp t.places n ≡ first_place t.file.instances n) };
 }
 
 impl<'a> Table<'a> {
