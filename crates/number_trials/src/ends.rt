@@ -5,42 +5,63 @@ use ix_outside::{
 use std::alloc::{AllocError, Global};
 use std::test::Fail;
 
+/// Five thousand bytes.
+fn sevens(alloc: Global) -> Result<Vec<u8>, AllocError> {
+    vec![in alloc; 7u8; 5000]
+}
+
 #[test]
 fn reads_to_the_end_within_the_limit(rt: HostRuntime) -> Result<(), Fail> {
-    let bytes = vec![in rt.alloc(); 7u8; 5000]?;
-    let mut source = MemSource::new(bytes.clone()?);
+    let mut source = MemSource::new(sevens(rt.alloc())?);
     let all = read_whole(rt.alloc(), &mut source, 5000)?;
-    assert!(rt; all.as_slice() == bytes.as_slice());
-    let mut end = [0u8; 1];
-    assert_eq!(rt; source.take(&mut end)?, 0);
-    let mut long = MemSource::new(bytes);
-    let found = read_whole(rt.alloc(), &mut long, 4999);
+    assert!(rt; all.as_slice() == sevens(rt.alloc())?.as_slice());
+    assert!(rt; matches!(&source.take(&mut [0u8; 1]), Ok(0)));
+    Ok(())
+}
+
+#[test]
+fn reads_no_more_than_the_limit(rt: HostRuntime) -> Result<(), AllocError> {
+    let mut source = MemSource::new(sevens(rt.alloc())?);
+    let found = read_whole(rt.alloc(), &mut source, 4999);
     assert!(rt; matches!(&found, Err(TakeFault::TooLarge)));
     Ok(())
+}
+
+/// A piece that a sink is given, whether the sink takes all of it, and what it then holds.
+type Piece = (&'static [u8], bool, &'static [u8]);
+
+/// What a sink with room for five bytes keeps.
+const KEPT: [Piece; 2] = [(b"abc", true, b"abc"), (b"defg", false, b"abcde")];
+
+/// Whether a sink in memory takes a piece so.
+fn keeps(sink: &mut MemSink, piece: &[u8], is_whole: bool, held: &[u8]) -> bool {
+    write_whole(sink, piece).is_ok() == is_whole && sink.held() == held
 }
 
 #[test]
 fn keeps_what_finds_room(rt: HostRuntime) -> Result<(), Fail> {
     let mut sink = MemSink::new(rt.alloc(), 5)?;
-    let cases: [(&[u8], bool, &[u8]); 2] = [(b"abc", true, b"abc"), (b"defg", false, b"abcde")];
-    for (piece, is_whole, held) in cases {
-        assert_eq!(rt; write_whole(&mut sink, piece).is_ok(), is_whole);
-        assert_eq!(rt; sink.held(), held);
+    for (piece, is_whole, held) in &KEPT {
+        assert!(rt; keeps(&mut sink, piece, *is_whole, held));
     }
-    assert_eq!(rt; sink.put(b"")?, 0);
+    assert!(rt; matches!(&sink.put(b""), Ok(0)));
     assert!(rt; matches!(&sink.put(b"h"), Err(Failed)));
     Ok(())
 }
 
 #[test]
-fn hands_on_readers_and_writers(rt: HostRuntime) -> Result<(), Fail> {
+fn hands_on_what_a_reader_gives(rt: HostRuntime) -> Result<(), Fail> {
     let mut source = StdSource::new(b"abc".as_slice());
     let all = read_whole(rt.alloc(), &mut source, 3)?;
+    assert!(rt; all.as_slice() == b"abc".as_slice());
+    Ok(())
+}
+
+#[test]
+fn hands_on_to_a_writer(rt: HostRuntime) -> Result<(), Fail> {
     let mut taken = Vec::new(rt.alloc());
     write_whole(&mut StdSink::new(&mut taken), b"abc")?;
-    for bytes in [all.as_slice(), taken.as_slice()] {
-        assert_eq!(rt; bytes, b"abc".as_slice());
-    }
+    assert!(rt; taken.as_slice() == b"abc".as_slice());
     Ok(())
 }
 
@@ -51,52 +72,67 @@ fn failing(alloc: Global, fail_at: &[u64]) -> Result<FailSource, AllocError> {
     Ok(FailSource::new(bytes, 2, fail_at))
 }
 
+/// The two bytes that the next call gives, if it gives two.
+fn two(source: &mut FailSource) -> Option<[u8; 4]> {
+    let mut chunk = [0u8; 4];
+    match source.take(&mut chunk) {
+        Ok(2) => Some(chunk),
+        _ => None,
+    }
+}
+
 #[test]
 fn gives_a_few_and_fails_where_told(rt: HostRuntime) -> Result<(), Fail> {
     // The third call fails, and takes nothing.
     let mut source = failing(rt.alloc(), &[3])?;
-    let mut chunk = [0u8; 4];
-    for want in [[1, 2, 0, 0], [3, 4, 0, 0]] {
-        assert_eq!(rt; source.take(&mut chunk)?, 2);
-        assert_eq!(rt; chunk, want);
-    }
-    assert!(rt; matches!(&source.take(&mut chunk), Err(Failed)));
+    assert!(rt; two(&mut source) == Some([1, 2, 0, 0]));
+    assert!(rt; two(&mut source) == Some([3, 4, 0, 0]));
+    assert!(rt; matches!(&source.take(&mut [0u8; 4]), Err(Failed)));
     let rest = read_whole(rt.alloc(), &mut source, 5)?;
-    assert_eq!(rt; rest.as_slice(), [5u8].as_slice());
+    assert!(rt; rest.as_slice() == [5u8].as_slice());
     Ok(())
 }
 
 #[test]
-fn reads_nothing_whole_where_a_call_fails(rt: HostRuntime) -> Result<(), Fail> {
+fn reads_nothing_whole_where_a_call_fails(rt: HostRuntime) -> Result<(), AllocError> {
     let mut source = failing(rt.alloc(), &[4, 2])?;
     let found = read_whole(rt.alloc(), &mut source, 5);
     assert!(rt; matches!(&found, Err(TakeFault::Fault)));
     Ok(())
 }
 
+/// Whether a sink that takes a few bytes a call takes a piece so.
+fn takes(sink: &mut FailSink, piece: &[u8], is_whole: bool, held: &[u8]) -> bool {
+    write_whole(sink, piece).is_ok() == is_whole && sink.held() == held
+}
+
+/// What a sink takes of which the third call fails, and appends nothing.
+const TAKEN: [Piece; 3] = [
+    (b"abcdef", false, b"abcd"),
+    (b"ef", true, b"abcdef"),
+    (b"ghi", false, b"abcdefgh"),
+];
+
 #[test]
 fn takes_a_few_and_fails_where_told(rt: HostRuntime) -> Result<(), Fail> {
-    // The third call fails, and appends nothing.
     let mut sink = FailSink::new(rt.alloc(), 8, 2, vec![in rt.alloc(); 3u64]?)?;
-    let cases: [(&[u8], bool, &[u8]); 3] = [
-        (b"abcdef", false, b"abcd"),
-        (b"ef", true, b"abcdef"),
-        (b"ghi", false, b"abcdefgh"),
-    ];
-    for (piece, is_whole, held) in cases {
-        assert_eq!(rt; write_whole(&mut sink, piece).is_ok(), is_whole);
-        assert_eq!(rt; sink.held(), held);
+    for (piece, is_whole, held) in &TAKEN {
+        assert!(rt; takes(&mut sink, piece, *is_whole, held));
     }
-    assert_eq!(rt; sink.put(b"")?, 0);
+    assert!(rt; matches!(&sink.put(b""), Ok(0)));
     Ok(())
 }
 
-#[test]
-fn counts_what_it_takes(rt: HostRuntime) -> Result<(), Fail> {
+/// What a sink answers to pieces of two bytes and of none after three bytes, and how many it then counts.
+fn counted() -> Option<(usize, usize, u64)> {
     let mut sink = CountSink::new();
-    write_whole(&mut sink, b"abc")?;
-    assert_eq!(rt; sink.put(b"de")?, 2);
-    assert_eq!(rt; sink.put(b"")?, 0);
-    assert_eq!(rt; sink.taken(), 5);
-    Ok(())
+    write_whole(&mut sink, b"abc").ok()?;
+    let two = sink.put(b"de").ok()?;
+    let none = sink.put(b"").ok()?;
+    Some((two, none, sink.taken()))
+}
+
+#[test]
+fn counts_what_it_takes(rt: HostRuntime) {
+    assert!(rt; counted() == Some((2, 0, 5)));
 }

@@ -1,6 +1,5 @@
 use ifc_kinds::{Kind, is_element};
 use std::alloc::{AllocError, Global};
-use std::test::Fail;
 
 /// The keywords of the building elements, and the other keywords that are read.
 const ELEMENTS: &[&str] = &[
@@ -96,39 +95,42 @@ fn small_letters(alloc: Global, word: &str) -> Result<Vec<u8>, AllocError> {
     Ok(small)
 }
 
-/// What is found under a word in either letter case: its keyword, and whether it is an element.
-fn found(alloc: Global, word: &str) -> Result<Option<(&'static str, bool)>, AllocError> {
-    let kind = match Kind::of(word.as_bytes()) {
-        Some(kind) => kind,
-        None => return Ok(None),
+/// Whether a word in either letter case is the keyword of a building element, or of another thing.
+fn is_keyword(alloc: Global, word: &str, of_element: bool) -> Result<bool, AllocError> {
+    let small = small_letters(alloc, word)?;
+    let Some(kind) = Kind::of(word.as_bytes()) else {
+        return Ok(false);
     };
-    if Kind::of(small_letters(alloc, word)?.as_slice()) != Some(kind) {
-        return Ok(None);
-    }
-    Ok(Some((kind.keyword(), is_element(kind))))
+    Ok(
+        Kind::of(small.as_slice()) == Some(kind)
+            && kind.keyword() == word
+            && is_element(kind) == of_element,
+    )
 }
 
 #[test]
-fn finds_every_keyword(rt: HostRuntime) -> Result<(), Fail> {
-    for (words, is_element) in [(ELEMENTS, true), (OTHERS, false)] {
-        for word in words {
-            let want = Some((*word, is_element));
-            assert_eq!(rt; found(rt.alloc(), word)?, want);
-        }
+fn finds_every_keyword(rt: HostRuntime) -> Result<(), AllocError> {
+    for word in ELEMENTS {
+        assert!(rt; is_keyword(rt.alloc(), word, true)?, "at {word}");
+    }
+    for word in OTHERS {
+        assert!(rt; is_keyword(rt.alloc(), word, false)?, "at {word}");
     }
     Ok(())
 }
 
+const NO_KEYWORDS: [&str; 6] = [
+    "IFCCIRCLEPROFILEDEF",
+    "IFCWAL",
+    "IFCWALLS",
+    "WALL",
+    "!IFCWALL",
+    "",
+];
+
 #[test]
 fn finds_no_other_word(rt: HostRuntime) {
-    for word in [
-        "IFCCIRCLEPROFILEDEF",
-        "IFCWAL",
-        "IFCWALLS",
-        "WALL",
-        "!IFCWALL",
-        "",
-    ] {
+    for word in &NO_KEYWORDS {
         assert!(rt; Kind::of(word.as_bytes()).is_none(), "at {word}");
     }
 }

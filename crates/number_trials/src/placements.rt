@@ -1,9 +1,7 @@
-ghost use Rattle.std.specs.Prelude.{◌≡◌, ◌^◌};
-ghost use Rattle.spec_place.specs.Vectors.{vector_of, IsWithin};
+ghost use Rattle.std.specs.Prelude.{◌≡◌};
 
 use ix_place::{Dir, Frame, HalfSpace, LengthUnit, Map, PlaceFault, Prefix, Transform};
 use spec_space::{Plane, Vector};
-use std::test::Fail;
 
 const ONE: i128 = 1_000_000_000;
 
@@ -17,155 +15,180 @@ fn vector(x: i128, y: i128, z: i128) -> Vector
     Vector { x, y, z }
 }
 
+/// The matrix of three rows, with an offset.
 fn by_rows(rows: [[i128; 3]; 3], off: [i128; 3]) -> Transform {
+    let [[a, b, c], [d, e, f], [g, h, i]] = rows;
+    let [x, y, z] = off;
     Transform {
-        x: vector(rows[0][0], rows[0][1], rows[0][2]),
-        y: vector(rows[1][0], rows[1][1], rows[1][2]),
-        z: vector(rows[2][0], rows[2][1], rows[2][2]),
-        off: vector(off[0], off[1], off[2]),
+        x: vector(a, b, c),
+        y: vector(d, e, f),
+        z: vector(g, h, i),
+        off: vector(x, y, z),
     }
+}
+
+/// A length of one in feet.
+fn one_foot() -> Option<i64> {
+    LengthUnit::of_metre(None)
+        .converted(304_800_000_000)?
+        .length(UNIT)
 }
 
 #[test]
-fn reads_lengths(rt: HostRuntime) -> Result<(), Fail> {
-    let metre = LengthUnit::of_metre(None);
-    let thousandth = LengthUnit::of_metre(Some(Prefix::Milli));
-    let Some(foot) = metre.converted(304_800_000_000) else {
-        return Err(Fail::from("no foot"));
-    };
-    for (unit, decimal, length) in [
-        (foot, UNIT, Some(304_800_000)),
-        (thousandth, 400_000, Some(0)),
-        (thousandth, -1_500_000, Some(-1)),
-        (metre, 10_000_000 * UNIT, Some(MOST)),
-        (metre, 10_000_000 * UNIT + 500, None),
-    ] {
-        assert_eq!(rt; unit.length(decimal), length, "at {decimal}");
-    }
-    for (factor, unit) in [
-        (1_000 * UNIT, Some(LengthUnit::of_metre(Some(Prefix::Kilo)))),
-        (1_000 * UNIT + 500, None),
-        (499, None),
-    ] {
-        assert_eq!(rt; metre.converted(factor), unit, "at {factor}");
-    }
-    Ok(())
+fn reads_lengths_in_feet(rt: HostRuntime) {
+    assert!(rt; one_foot() == Some(304_800_000));
 }
 
-/// The parts of the direction of three ratios.
-fn parts(ratios: [i128; 3]) -> Result<Vector, PlaceFault>
-    requires { IsWithin (10 ^ 18) (vector_of ratios) }
-{
-    Ok(Dir::of_triple(ratios)?.v)
+#[test]
+fn reads_lengths_in_millimetres(rt: HostRuntime) {
+    let thousandth = LengthUnit::of_metre(Some(Prefix::Milli));
+    assert!(rt; thousandth.length(400_000) == Some(0));
+    assert!(rt; thousandth.length(-1_500_000) == Some(-1));
+}
+
+#[test]
+fn reads_lengths_in_metres(rt: HostRuntime) {
+    let metre = LengthUnit::of_metre(None);
+    assert!(rt; metre.length(10_000_000 * UNIT) == Some(MOST));
+    assert!(rt; metre.length(10_000_000 * UNIT + 500).is_none());
+}
+
+#[test]
+fn converts_units(rt: HostRuntime) {
+    let metre = LengthUnit::of_metre(None);
+    let thousand = LengthUnit::of_metre(Some(Prefix::Kilo));
+    assert!(rt; metre.converted(1_000 * UNIT) == Some(thousand));
+    assert!(rt; metre.converted(1_000 * UNIT + 500).is_none());
+    assert!(rt; metre.converted(499).is_none());
+}
+
+/// The direction along the first axis, turned by 30 degrees to the second.
+fn slanted() -> Result<Dir, PlaceFault> {
+    Dir::of_triple([866_025_400_000, 500_000_000_000, 0])
 }
 
 #[test]
 fn finds_directions(rt: HostRuntime) {
-    for (ratios, want) in [
-        (
-            [866_025_400_000, 500_000_000_000, 0],
-            Ok(vector(866_025_403, 500_000_002, 0)),
-        ),
-        ([0, 0, 1], Ok(vector(0, 0, ONE))),
-        ([0, 0, 0], Err(PlaceFault::ZeroDirection)),
-    ] {
-        assert_eq!(rt; parts(ratios), want, "at {ratios:?}");
-    }
+    let slanting = Dir {
+        v: vector(866_025_403, 500_000_002, 0),
+    };
+    let upwards = Dir {
+        v: vector(0, 0, ONE),
+    };
+    assert!(rt; slanted() == Ok(slanting));
+    assert!(rt; Dir::of_triple([0, 0, 1]) == Ok(upwards));
+    assert!(rt; Dir::of_triple([0, 0, 0]) == Err(PlaceFault::ZeroDirection));
+}
+
+/// The frame at 2600 and 1200 metres, turned by 30 degrees.
+fn slanted_frame() -> Result<Frame, PlaceFault> {
+    let up = Dir::of_triple([0, 0, 1])?;
+    let at = [2_600_000_000_000_000, 1_200_000_000_000_000, 0];
+    Frame::of_axes(at, Some(up), Some(slanted()?))
+}
+
+/// The frame turned by 30 degrees and back.
+fn turned_back() -> Result<Frame, PlaceFault> {
+    let back = Dir::of_triple([866_025_400_000, -500_000_000_000, 0])?;
+    slanted_frame()?.then(&Frame::of_axes([0, 0, 0], None, Some(back))?)
 }
 
 #[test]
-fn finds_frames(rt: HostRuntime) -> Result<(), Fail> {
-    let up = Dir::of_triple([0, 0, 1])?;
-    let slanted = Dir::of_triple([866_025_400_000, 500_000_000_000, 0])?;
-    let back = Dir::of_triple([866_025_400_000, -500_000_000_000, 0])?;
-    let at = [2_600_000_000_000_000, 1_200_000_000_000_000, 0];
-    let frame = Frame::of_axes(at, Some(up), Some(slanted))?;
+fn finds_frames(rt: HostRuntime) -> Result<(), PlaceFault> {
     let rows = [
         [866_025_403, -500_000_002, 0],
         [500_000_002, 866_025_403, 0],
         [0, 0, ONE],
     ];
-    let inverse_rows = [
+    let off = [2_600_000_000_000_000, 1_200_000_000_000_000, 0];
+    assert!(rt; slanted_frame()?.transform == by_rows(rows, off));
+    assert!(rt; turned_back()?.transform.x == vector(ONE, 0, 0));
+    Ok(())
+}
+
+#[test]
+fn inverts_frames(rt: HostRuntime) -> Result<(), PlaceFault> {
+    let rows = [
         [866_025_403, 500_000_002, 0],
         [-500_000_002, 866_025_403, 0],
         [0, 0, ONE],
     ];
-    for (found, rows, off) in [
-        (
-            frame,
-            rows,
-            [2_600_000_000_000_000, 1_200_000_000_000_000, 0],
-        ),
-        (
-            frame.inverse()?,
-            inverse_rows,
-            [-2_851_666_050_200_000, 260_769_521_600_000, 0],
-        ),
-    ] {
-        assert_eq!(rt; found.transform, by_rows(rows, off));
-    }
-    let turned = frame.then(&Frame::of_axes([0, 0, 0], None, Some(back))?)?;
-    assert_eq!(rt; turned.transform.x, vector(ONE, 0, 0));
+    let off = [-2_851_666_050_200_000, 260_769_521_600_000, 0];
+    assert!(rt; slanted_frame()?.inverse()?.transform == by_rows(rows, off));
+    Ok(())
+}
+
+/// The frame that is as far along the first axis as a frame may be.
+fn far() -> Result<Frame, PlaceFault> {
+    Frame::of_axes([MOST, 0, 0], None, None)
+}
+
+/// The frame a short way from the origin.
+fn step() -> Result<Frame, PlaceFault> {
+    Frame::of_axes([1, 2, 3], None, None)
+}
+
+/// The place of an opening with a chain of frames of its own, in the element that it cuts.
+fn of_opening(far: Frame, step: Frame) -> Result<Frame, PlaceFault> {
+    Frame::relative_of_chains(&[(7, far), (8, step)], &[(7, far), (8, step), (9, step)])
+}
+
+#[test]
+fn joins_frames(rt: HostRuntime) -> Result<(), PlaceFault> {
+    let (far, step) = (far()?, step()?);
+    assert!(rt; far.then(&Frame::identity()) == Ok(far));
+    assert!(rt; of_opening(far, step) == Ok(step));
+    assert!(rt; Frame::relative(&[], &[step]) == Ok(step));
     Ok(())
 }
 
 #[test]
-fn joins_frames(rt: HostRuntime) -> Result<(), Fail> {
-    let far = Frame::of_axes([MOST, 0, 0], None, None)?;
-    let step = Frame::of_axes([1, 2, 3], None, None)?;
-    let element = [(7, far), (8, step)];
-    let opening = [(7, far), (8, step), (9, step)];
-    for (found, want) in [
-        (far.then(&Frame::identity())?, far),
-        (Frame::relative_of_chains(&element, &opening)?, step),
-        (Frame::relative(&[], &[step])?, step),
-    ] {
-        assert_eq!(rt; found, want);
-    }
+fn refuses_far_frames(rt: HostRuntime) -> Result<(), PlaceFault> {
+    let (far, step) = (far()?, Frame::of_axes([1, 0, 0], None, None)?);
+    assert!(rt; far.then(&step) == Err(PlaceFault::OffsetTooLarge));
+    assert!(rt; Frame::of_chain(&[far, step]) == Err(PlaceFault::OffsetTooLarge));
     Ok(())
 }
 
-#[test]
-fn refuses_frames(rt: HostRuntime) -> Result<(), Fail> {
-    let far = Frame::of_axes([MOST, 0, 0], None, None)?;
-    let step = Frame::of_axes([1, 0, 0], None, None)?;
+/// The inverse of a frame that is far along the first two axes, and turned by 45 degrees.
+fn oblique_inverse() -> Result<Frame, PlaceFault> {
     let diagonal = Dir::of_triple([1, 1, 0])?;
-    let oblique = Frame::of_axes([MOST, MOST, 0], None, Some(diagonal))?;
-    let up = Some(Dir::of_triple([0, 0, 1])?);
-    let near = Some(Dir {
-        v: vector(999, 0, ONE),
-    });
-    let beside = Some(Dir {
-        v: vector(1000, 0, ONE),
-    });
-    let too_large = Some(PlaceFault::OffsetTooLarge);
-    for (found, fault) in [
-        (far.then(&step), too_large),
-        (Frame::of_chain(&[far, step]), too_large),
-        (oblique.inverse(), too_large),
-        (
-            Frame::of_axes([0, 0, 0], up, near),
-            Some(PlaceFault::Parallel),
-        ),
-        (Frame::of_axes([0, 0, 0], up, beside), None),
-    ] {
-        assert_eq!(rt; found.err(), fault);
-    }
-    Ok(())
+    Frame::of_axes([MOST, MOST, 0], None, Some(diagonal))?.inverse()
+}
+
+/// The frame of the axis upwards and a direction that is so far from it.
+fn beside(x: u16) -> Result<Frame, PlaceFault> {
+    let up = Dir::of_triple([0, 0, 1])?;
+    let direction = Dir {
+        v: vector(i128::from(x), 0, ONE),
+    };
+    Frame::of_axes([0, 0, 0], Some(up), Some(direction))
 }
 
 #[test]
-fn mirrors_by_the_second_axis(rt: HostRuntime) -> Result<(), Fail> {
+fn refuses_frames(rt: HostRuntime) {
+    assert!(rt; oblique_inverse() == Err(PlaceFault::OffsetTooLarge));
+    assert!(rt; beside(999) == Err(PlaceFault::Parallel));
+    assert!(rt; beside(1000).is_ok());
+}
+
+/// The map that mirrors by the second axis.
+fn mirrored() -> Result<Map, PlaceFault> {
     let axes = [
         Some(Dir::of_triple([UNIT, 0, 0])?),
         Some(Dir::of_triple([0, -UNIT, 0])?),
         Some(Dir::of_triple([0, 0, UNIT])?),
     ];
-    let mirrored = Map::of_operator([0, 0, 0], axes, [UNIT, UNIT, UNIT])?;
+    Map::of_operator([0, 0, 0], axes, [UNIT, UNIT, UNIT])
+}
+
+#[test]
+fn mirrors_by_the_second_axis(rt: HostRuntime) -> Result<(), PlaceFault> {
+    let mirrored = mirrored()?;
     let rows = [[ONE, 0, 0], [0, -ONE, 0], [0, 0, ONE]];
-    assert_eq!(rt; mirrored.transform, by_rows(rows, [0, 0, 0]));
+    assert!(rt; mirrored.transform == by_rows(rows, [0, 0, 0]));
     let corner = mirrored.corner(1000, [2_000_000_000, 2_000_000_000, 0]);
-    assert_eq!(rt; corner, [2000, -2000, 0]);
+    assert!(rt; corner == [2000, -2000, 0]);
     Ok(())
 }
 
@@ -175,38 +198,43 @@ fn stretching(scale: i128) -> Result<Map, PlaceFault> {
 }
 
 #[test]
-fn joins_and_refuses_maps(rt: HostRuntime) -> Result<(), Fail> {
+fn joins_maps(rt: HostRuntime) -> Result<(), PlaceFault> {
     let great = stretching(1000 * UNIT)?;
-    let plain = stretching(UNIT)?;
-    let beyond = stretching(UNIT + 1000)?;
     let far = Map::of_frame(&Frame::of_axes([0, 0, MOST], None, None)?);
-    let up = Some(Dir::of_triple([0, 0, 1])?);
-    let out_of_range = Err(PlaceFault::ScaleOutOfRange);
-    for (found, want) in [
-        (great.then(&plain), Ok(great)),
-        (great.then(&beyond), out_of_range),
-        (great.then(&far), Err(PlaceFault::OffsetTooLarge)),
-        (stretching(1000 * UNIT + 1), out_of_range),
-        (stretching(UNIT / 1000 - 1), out_of_range),
-        (
-            Map::of_operator([0, 0, 0], [up, None, up], [0, UNIT, UNIT]),
-            out_of_range,
-        ),
-        (
-            Map::of_operator([0, 0, 0], [up, None, up], [UNIT, UNIT, UNIT]),
-            Err(PlaceFault::Parallel),
-        ),
-    ] {
-        assert_eq!(rt; found, want);
-    }
-    assert!(rt; stretching(UNIT / 1000).is_ok());
+    assert!(rt; great.then(&stretching(UNIT)?) == Ok(great));
+    assert!(rt; great.then(&stretching(UNIT + 1000)?) == Err(PlaceFault::ScaleOutOfRange));
+    assert!(rt; great.then(&far) == Err(PlaceFault::OffsetTooLarge));
     Ok(())
 }
 
 #[test]
-fn finds_half_spaces(rt: HostRuntime) -> Result<(), Fail> {
+fn bounds_the_scales_of_maps(rt: HostRuntime) {
+    assert!(rt; stretching(1000 * UNIT + 1) == Err(PlaceFault::ScaleOutOfRange));
+    assert!(rt; stretching(UNIT / 1000 - 1) == Err(PlaceFault::ScaleOutOfRange));
+    assert!(rt; stretching(UNIT / 1000).is_ok());
+}
+
+/// The map of two axes that are parallel, and of a first scale.
+fn parallel(scale: i128) -> Result<Map, PlaceFault> {
+    let up = Some(Dir::of_triple([0, 0, 1])?);
+    Map::of_operator([0, 0, 0], [up, None, up], [scale, UNIT, UNIT])
+}
+
+#[test]
+fn refuses_maps(rt: HostRuntime) {
+    assert!(rt; parallel(0) == Err(PlaceFault::ScaleOutOfRange));
+    assert!(rt; parallel(UNIT) == Err(PlaceFault::Parallel));
+}
+
+/// The half-space of a map that is turned by 45 degrees, 500 mm along the first axis.
+fn slanted_half(agreement: bool) -> Result<HalfSpace, PlaceFault> {
     let axis = Dir::of_triple([UNIT, 0, UNIT])?;
-    let map = Map::of_frame(&Frame::of_axes([500_000_000, 0, 0], Some(axis), None)?);
+    let frame = Frame::of_axes([500_000_000, 0, 0], Some(axis), None)?;
+    Map::of_frame(&frame).half_space(1000, agreement)
+}
+
+#[test]
+fn finds_half_spaces(rt: HostRuntime) -> Result<(), PlaceFault> {
     let plane = Plane {
         a: 7_071_068,
         b: 0,
@@ -218,6 +246,13 @@ fn finds_half_spaces(rt: HostRuntime) -> Result<(), Fail> {
         in_front: true,
         corner: vector(500, 0, 0),
     };
+    assert!(rt; slanted_half(false)? == in_front);
+    assert!(rt; !slanted_half(true)?.in_front);
+    Ok(())
+}
+
+#[test]
+fn finds_no_half_space_of_a_flat_map(rt: HostRuntime) {
     let flat = Map {
         transform: Transform {
             x: vector(ONE, ONE, 0),
@@ -226,11 +261,5 @@ fn finds_half_spaces(rt: HostRuntime) -> Result<(), Fail> {
             off: vector(0, 0, 0),
         },
     };
-    assert_eq!(rt; map.half_space(1000, false)?, in_front);
-    assert!(rt; !map.half_space(1000, true)?.in_front);
-    assert_eq!(rt;
-        flat.half_space(1, true).err(),
-        Some(PlaceFault::ZeroDirection)
-    );
-    Ok(())
+    assert!(rt; flat.half_space(1, true) == Err(PlaceFault::ZeroDirection));
 }

@@ -2,7 +2,6 @@ use ix_place::Dir;
 use ix_profile::{Loop, Loops, hollow, i_shape, rectangle};
 use spec_space::Vector;
 use std::alloc::{AllocError, Global};
-use std::test::Fail;
 
 /// Points of the plane z = 0.
 fn planar(alloc: Global, numbers: &[(i16, i16)]) -> Result<Vec<Vector>, AllocError> {
@@ -47,25 +46,32 @@ fn profile(alloc: Global, name: &str) -> Result<Loops, AllocError> {
     }
 }
 
+/// Profiles by name, and their loops.
+const PROFILES: [(&str, &str); 4] = [
+    (
+        "hollow",
+        "2; 4: -500,-500,0 500,-500,0 500,500,0 -500,500,0; \
+            4: -400,-400,0 400,-400,0 400,400,0 -400,400,0",
+    ),
+    (
+        "i shape",
+        "1; 12: -150,-250,0 150,-250,0 150,-220,0 10,-220,0 10,220,0 150,220,0 \
+            150,250,0 -150,250,0 -150,220,0 -10,220,0 -10,-220,0 -150,-220,0",
+    ),
+    ("odd", "1; 4: 0,-1,0 1,-1,0 1,2,0 0,2,0"),
+    ("odd and placed", "1; 4: 11,20,0 11,21,0 8,21,0 8,20,0"),
+];
+
+/// Whether the loops of a profile are as told.
+fn is_profile(alloc: Global, name: &str, want: &str) -> Result<bool, AllocError> {
+    let loops = profile(alloc, name)?;
+    Ok(loops_text(alloc, &loops)?.as_str() == want)
+}
+
 #[test]
-fn makes_profiles(rt: HostRuntime) -> Result<(), Fail> {
-    for (name, want) in [
-        (
-            "hollow",
-            "2; 4: -500,-500,0 500,-500,0 500,500,0 -500,500,0; \
-                4: -400,-400,0 400,-400,0 400,400,0 -400,400,0",
-        ),
-        (
-            "i shape",
-            "1; 12: -150,-250,0 150,-250,0 150,-220,0 10,-220,0 10,220,0 150,220,0 \
-                150,250,0 -150,250,0 -150,220,0 -10,220,0 -10,-220,0 -150,-220,0",
-        ),
-        ("odd", "1; 4: 0,-1,0 1,-1,0 1,2,0 0,2,0"),
-        ("odd and placed", "1; 4: 11,20,0 11,21,0 8,21,0 8,20,0"),
-    ] {
-        let loops = profile(rt.alloc(), name)?;
-        let found = loops_text(rt.alloc(), &loops)?;
-        assert_eq!(rt; found.as_str(), want, "at {name}");
+fn makes_profiles(rt: HostRuntime) -> Result<(), AllocError> {
+    for (name, want) in &PROFILES {
+        assert!(rt; is_profile(rt.alloc(), name, want)?, "at {name}");
     }
     Ok(())
 }
@@ -93,28 +99,38 @@ fn curves_text(alloc: Global, curves: &[&[(i16, i16)]]) -> Result<String, AllocE
     }
 }
 
+/// Closed curves, and their loops.
+const CURVES: [(&[(i16, i16)], &str); 2] = [
+    (
+        &[(0, 0), (4, 0), (4, 1), (1, 1), (1, 3), (0, 3), (0, 0)],
+        "1; 6: 0,0,0 4,0,0 4,1,0 1,1,0 1,3,0 0,3,0",
+    ),
+    (&[(0, 0), (4, 0), (0, 0), (4, 0)], "no loop"),
+];
+
 #[test]
-fn opens_closed_curves(rt: HostRuntime) -> Result<(), Fail> {
-    let bent = [(0, 0), (4, 0), (4, 1), (1, 1), (1, 3), (0, 3), (0, 0)];
-    let cases: [(&[(i16, i16)], &str); 2] = [
-        (&bent, "1; 6: 0,0,0 4,0,0 4,1,0 1,1,0 1,3,0 0,3,0"),
-        (&[(0, 0), (4, 0), (0, 0), (4, 0)], "no loop"),
-    ];
-    for (curve, want) in cases {
-        let found = curve_text(rt.alloc(), curve)?;
-        assert_eq!(rt; found.as_str(), want);
+fn opens_a_closed_curve(rt: HostRuntime) -> Result<(), AllocError> {
+    for (curve, want) in &CURVES {
+        assert!(rt; curve_text(rt.alloc(), curve)?.as_str() == *want);
     }
-    let triangle = [(0, 0), (4, 0), (0, 3), (0, 0)];
-    let cases: [(&[&[(i16, i16)]], &str); 2] = [
-        (&[&triangle], "1; 3: 0,0,0 4,0,0 0,3,0"),
-        (
-            &[&triangle, &[(0, 0), (4, 0), (0, 0)]],
-            "DegenerateLoop { which: 1 }",
-        ),
-    ];
-    for (curves, want) in cases {
-        let found = curves_text(rt.alloc(), curves)?;
-        assert_eq!(rt; found.as_str(), want);
+    Ok(())
+}
+
+const TRIANGLE: &[(i16, i16)] = &[(0, 0), (4, 0), (0, 3), (0, 0)];
+
+/// Some closed curves, and their loops.
+const SETS_OF_CURVES: [(&[&[(i16, i16)]], &str); 2] = [
+    (&[TRIANGLE], "1; 3: 0,0,0 4,0,0 0,3,0"),
+    (
+        &[TRIANGLE, &[(0, 0), (4, 0), (0, 0)]],
+        "DegenerateLoop { which: 1 }",
+    ),
+];
+
+#[test]
+fn opens_closed_curves(rt: HostRuntime) -> Result<(), AllocError> {
+    for (curves, want) in &SETS_OF_CURVES {
+        assert!(rt; curves_text(rt.alloc(), curves)?.as_str() == *want);
     }
     Ok(())
 }
