@@ -1,12 +1,9 @@
+use crate::asked::{Asked, answers, grid_of};
 use entity_reader::has_kind;
 use ifc_elem::{Openings, element_body};
-use ifc_geom::{GeomIn, ItemFault, length_unit};
 use ifc_kinds::Kind;
-use solid_expr::ElementSolid;
 use std::alloc::{AllocError, Global};
-use std::test::Fail;
 use step_table::Table;
-use step_text::parse_file;
 
 const SAMPLE: &str = "ISO-10303-21;HEADER;FILE_SCHEMA(('IFC4'));ENDSEC;DATA;
 #1=IFCSIUNIT(*,.LENGTHUNIT.,.MILLI.,.METRE.);
@@ -26,12 +23,30 @@ const SAMPLE: &str = "ISO-10303-21;HEADER;FILE_SCHEMA(('IFC4'));ENDSEC;DATA;
 #15=IFCSLAB('5',$,$,$,$,#7,$,$,$);
 ENDSEC;END-ISO-10303-21;";
 
+/// The openings of the wall and of its opening.
+pub(crate) fn openings_text(alloc: Global, table: &Table<'_>) -> Result<String, AllocError> {
+    let openings = Openings::of(alloc, table)?;
+    format!(in alloc;
+        "{:?} {:?}",
+        openings.of_element(12),
+        openings.of_element(13)
+    )
+}
+
 /// What is read of an element: where it stands, and how many items it and its openings have.
-fn body_text(
+pub(crate) fn body_text(
     alloc: Global,
-    body: &Result<Option<ElementSolid>, ItemFault>,
+    table: &Table<'_>,
+    number: u64,
 ) -> Result<String, AllocError> {
-    match body {
+    let Some(g) = grid_of(table) else {
+        return String::from_str(alloc, "no unit");
+    };
+    if !has_kind(table, number, Kind::Wall) && !has_kind(table, number, Kind::Slab) {
+        return String::from_str(alloc, "no element");
+    }
+    let openings = Openings::of(alloc, table)?;
+    match element_body(alloc, table, &g, &openings, number) {
         Ok(Some(e)) => format!(in alloc;
             "#{} at {}: {} items, {} of openings",
             e.number,
@@ -44,33 +59,13 @@ fn body_text(
     }
 }
 
-/// What is read of the wall and of the slab of the sample.
-fn bodies_text(alloc: Global, table: &Table<'_>, g: &GeomIn) -> Result<String, AllocError> {
-    if !has_kind(table, 12, Kind::Wall) || !has_kind(table, 15, Kind::Slab) {
-        return String::from_str(alloc, "no elements");
-    }
-    let openings = Openings::of(alloc, table)?;
-    let wall = element_body(alloc, table, g, &openings, 12);
-    let slab = element_body(alloc, table, g, &openings, 15);
-    format!(in alloc;
-        "{:?} {:?} {}; {}",
-        openings.of_element(12),
-        openings.of_element(13),
-        body_text(alloc, &wall)?,
-        body_text(alloc, &slab)?
-    )
-}
-
 #[test]
-fn reads_elements(rt: HostRuntime) -> Result<(), Fail> {
-    let table = Table::of(rt.alloc(), parse_file(rt.alloc(), SAMPLE.as_bytes())?)?;
-    let g = GeomIn {
-        unit: length_unit(&table)?,
-        step: 1000,
-    };
-    assert_eq!(rt;
-        bodies_text(rt.alloc(), &table, &g)?.as_str(),
-        "[14] [] #12 at 5000000: 2 items, 2 of openings; no body"
-    );
-    Ok(())
+fn reads_elements(rt: HostRuntime) {
+    for (asked, want) in [
+        (Asked::Openings, "[14] []"),
+        (Asked::Body(12), "#12 at 5000000: 2 items, 2 of openings"),
+        (Asked::Body(15), "no body"),
+    ] {
+        assert!(rt; answers(rt.alloc(), asked, SAMPLE, want), "{want}");
+    }
 }

@@ -1,9 +1,7 @@
-use crate::samples::edited;
+use crate::asked::{Asked, holds};
 use entity_reader::{elements, first_project, unit_of};
 use std::alloc::{AllocError, Global};
-use std::test::Fail;
 use step_table::Table;
-use step_text::parse_file;
 
 const SAMPLE: &str = "ISO-10303-21;HEADER;FILE_SCHEMA(('IFC4'));ENDSEC;DATA;
 #1=IFCSIUNIT(*,.LENGTHUNIT.,.MILLI.,.METRE.);
@@ -19,42 +17,25 @@ const SAMPLE: &str = "ISO-10303-21;HEADER;FILE_SCHEMA(('IFC4'));ENDSEC;DATA;
 #12=IFCWINDOWSTANDARDCASE('2',$);
 ENDSEC;END-ISO-10303-21;";
 
-/// The unit of length of the first project, and the elements of a text.
-fn answer(alloc: Global, text: &str) -> Result<String, AllocError> {
-    match parse_file(alloc, text.as_bytes()) {
-        Ok(file) => {
-            let table = Table::of(alloc, file)?;
-            let unit = first_project(&table).map(|project| unit_of(&table, project));
-            let numbers = elements(alloc, &table)?;
-            format!(in alloc; "{unit:?} {:?}", numbers.as_slice())
-        }
-        Err(fault) => format!(in alloc; "{fault:?}"),
-    }
+/// Where the unit of length of the first project stands, and the elements.
+pub(crate) fn entities_text(alloc: Global, table: &Table<'_>) -> Result<String, AllocError> {
+    let Some(project) = first_project(table) else {
+        return String::from_str(alloc, "no project");
+    };
+    let numbers = elements(alloc, table)?;
+    format!(in alloc; "{:?} {:?}", unit_of(table, project), numbers.as_slice())
 }
 
+const ROWS: &str = "\
+'p' => 'p' => Ok(Some(1)) [14, 13, 12]
+,#9, => ,#8, => Ok(Some(8)) [14, 13, 12]
+.LENGTHUNIT.,.MILLI. => $,.MILLI. => Ok(None) [14, 13, 12]
+#6=IFCPROJECT => #6=IFCPROJEKT => Err(Unsupported { at: 8 }) [14, 13, 12]
+#13=IFCWALL => #13=IFCWALLS => Ok(Some(1)) [14, 12]";
+
 #[test]
-fn finds_unit_and_elements(rt: HostRuntime) -> Result<(), Fail> {
-    for (old, new, want) in [
-        ("'p'", "'p'", "Some(Ok(Some(1))) [14, 13, 12]"),
-        (",#9,", ",#8,", "Some(Ok(Some(8))) [14, 13, 12]"),
-        (
-            ".LENGTHUNIT.,.MILLI.",
-            "$,.MILLI.",
-            "Some(Ok(None)) [14, 13, 12]",
-        ),
-        (
-            "#6=IFCPROJECT",
-            "#6=IFCPROJEKT",
-            "Some(Err(Unsupported { at: 8 })) [14, 13, 12]",
-        ),
-        ("#13=IFCWALL", "#13=IFCWALLS", "Some(Ok(Some(1))) [14, 12]"),
-    ] {
-        let text = edited(rt.alloc(), SAMPLE, old, new)?;
-        assert_eq!(rt;
-            answer(rt.alloc(), text.as_str())?.as_str(),
-            want,
-            "at {new}"
-        );
+fn finds_unit_and_elements(rt: HostRuntime) {
+    for row in ROWS.lines() {
+        assert!(rt; holds(rt.alloc(), Asked::Entities, SAMPLE, row), "at {row}");
     }
-    Ok(())
 }

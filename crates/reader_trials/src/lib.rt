@@ -3,6 +3,8 @@
 #![tactic(auto)]
 
 #[cfg(test)]
+mod asked;
+#[cfg(test)]
 mod breps;
 #[cfg(test)]
 mod curves;
@@ -20,8 +22,6 @@ mod placements;
 mod printing;
 #[cfg(test)]
 mod profiles;
-#[cfg(test)]
-mod samples;
 #[cfg(test)]
 mod solids;
 #[cfg(test)]

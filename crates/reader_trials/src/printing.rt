@@ -1,5 +1,4 @@
 use std::alloc::{AllocError, Global};
-use std::test::Fail;
 use step_print::print_file;
 use step_text::parse_file;
 
@@ -25,11 +24,17 @@ fn printed(alloc: Global, text: &str) -> Result<Vec<u8>, AllocError> {
     }
 }
 
-#[test]
-fn prints_what_it_reads(rt: HostRuntime) -> Result<(), Fail> {
-    for text in [TEXT, PAGE] {
-        let page = printed(rt.alloc(), text)?;
-        assert_eq!(rt; page.as_slice(), PAGE.as_bytes(), "of {text}");
+/// Whether this page is printed of a text.
+fn prints(alloc: Global, text: &str, page: &str) -> bool {
+    match printed(alloc, text) {
+        Ok(found) => found.as_slice() == page.as_bytes(),
+        Err(AllocError) => false,
     }
-    Ok(())
+}
+
+#[test]
+fn prints_what_it_reads(rt: HostRuntime) {
+    for text in [TEXT, PAGE] {
+        assert!(rt; prints(rt.alloc(), text, PAGE), "of {text}");
+    }
 }

@@ -1,14 +1,10 @@
-use crate::samples::edited;
+use crate::asked::{Asked, holds_with, millimetres};
 use entity_reader::has_kind;
-use ifc_axes::GeomIn;
 use ifc_kinds::Kind;
 use ifc_profiles::named_profile;
-use ix_place::{LengthUnit, Prefix};
 use ix_profile::Loops;
 use std::alloc::{AllocError, Global};
-use std::test::Fail;
 use step_table::Table;
-use step_text::parse_file;
 
 const SAMPLE: &str = "ISO-10303-21;HEADER;FILE_SCHEMA(('IFC4'));ENDSEC;DATA;
 #1=IFCCARTESIANPOINTLIST2D(((0.,0.),(4.,0.),(4.,3.),(0.,3.)));
@@ -37,13 +33,12 @@ fn loops_text(alloc: Global, loops: &Loops) -> Result<String, AllocError> {
     Ok(text)
 }
 
-fn profile_text(alloc: Global, table: &Table<'_>) -> Result<String, AllocError> {
-    let unit = LengthUnit::of_metre(Some(Prefix::Milli));
-    let g = GeomIn { unit, step: 1000 };
+/// The loops of the profile of the sample, and how many triangles its sweep has with 100 others.
+pub(crate) fn profile_text(alloc: Global, table: &Table<'_>) -> Result<String, AllocError> {
     if !has_kind(table, 10, Kind::ExtrudedAreaSolid) {
         return String::from_str(alloc, "no extrusion");
     }
-    match named_profile(alloc, table, &g, 10, 1, 100) {
+    match named_profile(alloc, table, &millimetres(), 10, 1, 100) {
         Ok((loops, count)) => {
             let mut text = loops_text(alloc, &loops)?;
             write!(text, "{count}")?;
@@ -53,55 +48,27 @@ fn profile_text(alloc: Global, table: &Table<'_>) -> Result<String, AllocError> 
     }
 }
 
-fn answer(alloc: Global, text: &str) -> Result<String, AllocError> {
-    match parse_file(alloc, text.as_bytes()) {
-        Ok(file) => profile_text(alloc, &Table::of(alloc, file)?),
-        Err(fault) => format!(in alloc; "{fault:?}"),
-    }
-}
+/// What stands in the place of the line of the profile, and what is read then.
+const ROWS: &str = "\
+#9=IFCARBITRARYPROFILEDEFWITHVOIDS(.AREA.,$,#3,(#4)); => \
+0,0 4000,0 4000,3000 0,3000 | 1000,1000 2000,1000 1000,2000 | 142
+#9=IFCARBITRARYCLOSEDPROFILEDEF(.AREA.,$,#3); => 0,0 4000,0 4000,3000 0,3000 | 124
+#9=IFCRECTANGLEPROFILEDEF(.AREA.,$,#7,4.,2.); => 11000,18000 11000,22000 9000,22000 9000,18000 | 124
+#9=IFCRECTANGLEHOLLOWPROFILEDEF(.AREA.,$,$,4.,2.,0.5,$,0.); => \
+-2000,-1000 2000,-1000 2000,1000 -2000,1000 | -1500,-500 1500,-500 1500,500 -1500,500 | 148
+#9=IFCRECTANGLEHOLLOWPROFILEDEF(.AREA.,$,$,4.,2.,1.,0.1,$); => Refused(BadAttribute { at: 9, position: 6 })
+#9=IFCISHAPEPROFILEDEF(.AREA.,$,$,4.,2.,1.,0.5,$,$,0); => \
+-2000,-1000 2000,-1000 2000,-500 500,-500 500,500 2000,500 \
+2000,1000 -2000,1000 -2000,500 -500,500 -500,-500 -2000,-500 | 172
+#9=IFCISHAPEPROFILEDEF(.AREA.,$,$,4.,2.,1.,0.5,$,0.1,$); => Refused(Curved { at: 9 })
+#9=IFCCIRCLEPROFILEDEF(.AREA.,$,$,4.); => Refused(Unsupported { at: 9 })";
 
 #[test]
-fn reads_profiles(rt: HostRuntime) -> Result<(), Fail> {
-    for (line, want) in [
-        (
-            PROFILE,
-            "0,0 4000,0 4000,3000 0,3000 | 1000,1000 2000,1000 1000,2000 | 142",
-        ),
-        (
-            "#9=IFCARBITRARYCLOSEDPROFILEDEF(.AREA.,$,#3);",
-            "0,0 4000,0 4000,3000 0,3000 | 124",
-        ),
-        (
-            "#9=IFCRECTANGLEPROFILEDEF(.AREA.,$,#7,4.,2.);",
-            "11000,18000 11000,22000 9000,22000 9000,18000 | 124",
-        ),
-        (
-            "#9=IFCRECTANGLEHOLLOWPROFILEDEF(.AREA.,$,$,4.,2.,0.5,$,0.);",
-            "-2000,-1000 2000,-1000 2000,1000 -2000,1000 | -1500,-500 1500,-500 1500,500 -1500,500 | 148",
-        ),
-        (
-            "#9=IFCRECTANGLEHOLLOWPROFILEDEF(.AREA.,$,$,4.,2.,1.,0.1,$);",
-            "Refused(BadAttribute { at: 9, position: 6 })",
-        ),
-        (
-            "#9=IFCISHAPEPROFILEDEF(.AREA.,$,$,4.,2.,1.,0.5,$,$,0);",
-            "-2000,-1000 2000,-1000 2000,-500 500,-500 500,500 2000,500 2000,1000 -2000,1000 -2000,500 -500,500 -500,-500 -2000,-500 | 172",
-        ),
-        (
-            "#9=IFCISHAPEPROFILEDEF(.AREA.,$,$,4.,2.,1.,0.5,$,0.1,$);",
-            "Refused(Curved { at: 9 })",
-        ),
-        (
-            "#9=IFCCIRCLEPROFILEDEF(.AREA.,$,$,4.);",
-            "Refused(Unsupported { at: 9 })",
-        ),
-    ] {
-        let text = edited(rt.alloc(), SAMPLE, PROFILE, line)?;
-        assert_eq!(rt;
-            answer(rt.alloc(), text.as_str())?.as_str(),
-            want,
-            "at {line}"
+fn reads_profiles(rt: HostRuntime) {
+    for row in ROWS.lines() {
+        assert!(rt;
+            holds_with(rt.alloc(), Asked::Profile, SAMPLE, PROFILE, row),
+            "at {row}"
         );
     }
-    Ok(())
 }

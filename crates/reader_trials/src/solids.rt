@@ -1,10 +1,9 @@
+use crate::asked::{Asked, answers};
 use ifc_geom::{GeomIn, read_solid};
 use ix_place::{Frame, LengthUnit, Map, Prefix};
 use solid_expr::Solid;
 use std::alloc::{AllocError, Global};
-use std::test::Fail;
 use step_table::Table;
-use step_text::parse_file;
 
 const SAMPLE: &str = "ISO-10303-21;HEADER;FILE_SCHEMA(('IFC4'));ENDSEC;DATA;
 #1=IFCCARTESIANPOINT((1.,0.,0.));
@@ -68,29 +67,27 @@ fn push_solid(text: &mut String, solid: &Solid) -> Result<(), AllocError> {
     }
 }
 
-fn answer(alloc: Global, number: u64) -> Result<String, AllocError> {
-    match parse_file(alloc, SAMPLE.as_bytes()) {
-        Ok(file) => {
-            let table = Table::of(alloc, file)?;
-            let unit = LengthUnit::of_metre(Some(Prefix::Micro));
-            let g = GeomIn { unit, step: 1 };
-            let map = Map::of_frame(&Frame::identity());
-            match read_solid(alloc, &table, &g, number, &map, 1, 0) {
-                Ok((solid, count)) => {
-                    let mut text = String::new(alloc);
-                    push_solid(&mut text, &solid)?;
-                    write!(text, ", {count}")?;
-                    Ok(text)
-                }
-                Err(fault) => format!(in alloc; "{fault:?}"),
-            }
+/// The solid of a number, in micrometres, and how many triangles and half-spaces it has.
+pub(crate) fn solid_text(
+    alloc: Global,
+    table: &Table<'_>,
+    number: u64,
+) -> Result<String, AllocError> {
+    let unit = LengthUnit::of_metre(Some(Prefix::Micro));
+    let map = Map::of_frame(&Frame::identity());
+    match read_solid(alloc, table, &GeomIn { unit, step: 1 }, number, &map, 1, 0) {
+        Ok((solid, count)) => {
+            let mut text = String::new(alloc);
+            push_solid(&mut text, &solid)?;
+            write!(text, ", {count}")?;
+            Ok(text)
         }
         Err(fault) => format!(in alloc; "{fault:?}"),
     }
 }
 
 #[test]
-fn reads_solids(rt: HostRuntime) -> Result<(), Fail> {
+fn reads_solids(rt: HostRuntime) {
     for (number, want) in [
         (5, "#5 by 1000000000 at 1000, 6 faces, 24"),
         (6, "#6 by 1000000000 at 1000, 6 faces, 24"),
@@ -113,7 +110,9 @@ fn reads_solids(rt: HostRuntime) -> Result<(), Fail> {
         (20, "Refused(Unsupported { at: 3 })"),
         (4, "Refused(Unsupported { at: 4 })"),
     ] {
-        assert_eq!(rt; answer(rt.alloc(), number)?.as_str(), want, "at {number}");
+        assert!(rt;
+            answers(rt.alloc(), Asked::Solid(number), SAMPLE, want),
+            "at {number}"
+        );
     }
-    Ok(())
 }

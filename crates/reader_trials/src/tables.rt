@@ -1,12 +1,11 @@
 ghost use Rattle.std.specs.Prelude.{◌≤◌, IsTrue};
 ghost use Rattle.spec_table.specs.Sections.{IsSimple};
 
+use crate::asked::{Asked, answers};
 use spec_step::{Body, Instance, Param};
 use spec_table::AttrFault;
 use std::alloc::{AllocError, Global};
-use std::test::Fail;
 use step_table::Table;
-use step_text::parse_file;
 
 const SAMPLE: &str = "ISO-10303-21;HEADER;FILE_SCHEMA(('IFC4'));ENDSEC;DATA;
 #7=ONE($,*,#9,1.5,-2,'it''s',.Area.,(#9,$,3.,A(B(4)),#8,1.E10,(#9)),IFCLENGTHMEASURE(2.5),A(B(#9)),
@@ -17,7 +16,7 @@ ENDSEC;END-ISO-10303-21;";
 
 /// A call that reads an attribute.
 #[derive(Clone, Copy, Debug)]
-enum Call {
+pub(crate) enum Reading {
     Ref,
     Real,
     Enum,
@@ -25,59 +24,60 @@ enum Call {
     List,
 }
 
-/// A fault, where `-` stands for another kind at the position that was asked.
-fn fault_text(alloc: Global, fault: AttrFault, asked: usize) -> Result<String, AllocError> {
+/// A fault of #7, where `-` stands for another kind at the position that was asked.
+fn push_fault(text: &mut String, fault: AttrFault, asked: usize) -> Result<(), AllocError> {
     match fault {
-        AttrFault::BadAttribute { at: 7, position } if position == asked => {
-            String::from_str(alloc, "-")
-        }
         AttrFault::BadAttribute { at, position } => {
-            format!(in alloc; "BadAttribute {at} {position}")
+            if at == 7 && position == asked {
+                text.push_str("- ")
+            } else {
+                write!(text, "BadAttribute {at} {position} ")
+            }
         }
-        AttrFault::Dangling { at, number } => format!(in alloc; "Dangling {at} {number}"),
-        AttrFault::NumberTooLarge { at } => format!(in alloc; "NumberTooLarge {at}"),
+        AttrFault::Dangling { at, number } => write!(text, "Dangling {at} {number} "),
+        AttrFault::NumberTooLarge { at } => write!(text, "NumberTooLarge {at} "),
     }
 }
 
-fn bytes_text(
-    alloc: Global,
+fn push_bytes(
+    text: &mut String,
     reading: Result<Option<&[u8]>, AttrFault>,
     asked: usize,
-) -> Result<String, AllocError> {
+) -> Result<(), AllocError> {
     match reading {
-        Ok(Some(bytes)) => String::from_str(alloc, std::str::from_utf8(bytes).unwrap_or("?")),
-        Ok(None) => String::from_str(alloc, "unset"),
-        Err(fault) => fault_text(alloc, fault, asked),
+        Ok(Some(bytes)) => write!(text, "{} ", std::str::from_utf8(bytes).unwrap_or("?")),
+        Ok(None) => text.push_str("unset "),
+        Err(fault) => push_fault(text, fault, asked),
     }
 }
 
-/// What a call answers of an attribute of #7.
-fn reading_text(
-    alloc: Global,
+/// What an attribute of #7 is read as.
+fn push_reading(
+    text: &mut String,
     table: &Table<'_>,
-    call: Call,
+    reading: Reading,
     position: usize,
-) -> Result<String, AllocError>
+) -> Result<(), AllocError>
     requires simple { IsSimple table.now 7 }
     requires counted { 1 ≤ position }
 {
-    match call {
-        Call::Ref => match table.attr_ref(7, position) {
-            Ok(Some(number)) => format!(in alloc; "{number}"),
-            Ok(None) => String::from_str(alloc, "unset"),
-            Err(fault) => fault_text(alloc, fault, position),
+    match reading {
+        Reading::Ref => match table.attr_ref(7, position) {
+            Ok(Some(number)) => write!(text, "{number} "),
+            Ok(None) => text.push_str("unset "),
+            Err(fault) => push_fault(text, fault, position),
         },
-        Call::Real => match table.attr_real(7, position) {
-            Ok(Some(units)) => format!(in alloc; "{units}"),
-            Ok(None) => String::from_str(alloc, "unset"),
-            Err(fault) => fault_text(alloc, fault, position),
+        Reading::Real => match table.attr_real(7, position) {
+            Ok(Some(units)) => write!(text, "{units} "),
+            Ok(None) => text.push_str("unset "),
+            Err(fault) => push_fault(text, fault, position),
         },
-        Call::Enum => bytes_text(alloc, table.attr_enum(7, position), position),
-        Call::Text => bytes_text(alloc, table.attr_text(7, position), position),
-        Call::List => match table.attr_list(7, position) {
-            Ok(Some(members)) => format!(in alloc; "{} members", members.len()),
-            Ok(None) => String::from_str(alloc, "unset"),
-            Err(fault) => fault_text(alloc, fault, position),
+        Reading::Enum => push_bytes(text, table.attr_enum(7, position), position),
+        Reading::Text => push_bytes(text, table.attr_text(7, position), position),
+        Reading::List => match table.attr_list(7, position) {
+            Ok(Some(members)) => write!(text, "{} members ", members.len()),
+            Ok(None) => text.push_str("unset "),
+            Err(fault) => push_fault(text, fault, position),
         },
     }
 }
@@ -96,112 +96,133 @@ fn is_simple(table: &Table<'_>, at: u64) -> bool
     }
 }
 
-/// What a call answers at each position of #7, from 1 to one behind the last.
-fn readings_text(alloc: Global, table: &Table<'_>, call: Call) -> Result<String, AllocError>
-    requires { IsSimple table.now 7 }
-{
-    let mut texts = String::new(alloc);
-    for position in 1..20 {
-        texts.push_str(reading_text(alloc, table, call, position)?.as_str())?;
-        texts.push(' ')?;
+/// What the attributes of #7 are read as, from position 1 to one behind the last.
+pub(crate) fn readings_text(
+    alloc: Global,
+    table: &Table<'_>,
+    reading: Reading,
+) -> Result<String, AllocError> {
+    let mut text = String::new(alloc);
+    if is_simple(table, 7) {
+        for position in 1..20 {
+            push_reading(&mut text, table, reading, position)?;
+        }
     }
-    Ok(texts)
+    Ok(text)
 }
 
-/// What the calls answer at these positions; `-` stands for another kind.
-const READINGS: [(Call, &str); 5] = [
+/// What the readings answer at these positions; `-` stands for another kind.
+const READINGS: [(Reading, &str); 5] = [
     (
-        Call::Ref,
+        Reading::Ref,
         "unset unset 9 - - - - - - 9 unset - Dangling 7 8 - - - - - unset ",
     ),
     (
-        Call::Real,
+        Reading::Real,
         "unset unset - 1500000000000 -2000000000000 - - - 2500000000000 - unset - - \
             NumberTooLarge 7 - - - - unset ",
     ),
     (
-        Call::Enum,
+        Reading::Enum,
         "unset unset - - - - Area - - - unset - - - - - T - unset ",
     ),
     (
-        Call::Text,
+        Reading::Text,
         "unset unset - - - it''s - - - - unset - - - t - - - unset ",
     ),
     (
-        Call::List,
+        Reading::List,
         "unset unset - - - - - 7 members - - unset - - - - 2 members - 0 members unset ",
     ),
 ];
 
 #[test]
-fn reads_attributes(rt: HostRuntime) -> Result<(), Fail> {
-    let table = Table::of(rt.alloc(), parse_file(rt.alloc(), SAMPLE.as_bytes())?)?;
-    if !is_simple(&table, 7) {
-        return Err(Fail::new("#7 is not there"));
+fn reads_attributes(rt: HostRuntime) {
+    for (reading, want) in READINGS {
+        assert!(rt;
+            answers(rt.alloc(), Asked::Readings(reading), SAMPLE, want),
+            "at {reading:?}"
+        );
     }
-    for (call, want) in READINGS {
-        let found = readings_text(rt.alloc(), &table, call)?;
-        assert_eq!(rt; found.as_str(), want, "at {call:?}");
-    }
-    Ok(())
 }
 
 /// What a member of the list at position 8 of #7 is read as.
-fn member_text(alloc: Global, table: &Table<'_>, member: &Param) -> Result<String, AllocError> {
+fn push_member(text: &mut String, table: &Table<'_>, member: &Param) -> Result<(), AllocError> {
     match table.param_ref(7, 8, member) {
-        Ok(number) => format!(in alloc; "#{number}"),
+        Ok(number) => write!(text, "#{number} "),
         Err(AttrFault::BadAttribute { .. }) => match table.param_real(7, 8, member) {
-            Ok(units) => format!(in alloc; "{units}"),
-            Err(fault) => fault_text(alloc, fault, 8),
+            Ok(units) => write!(text, "{units} "),
+            Err(fault) => push_fault(text, fault, 8),
         },
-        Err(fault) => fault_text(alloc, fault, 8),
+        Err(fault) => push_fault(text, fault, 8),
     }
 }
 
 /// The members of the list at position 8 of #7, one by one.
-fn members_text(alloc: Global, table: &Table<'_>) -> Result<String, AllocError>
-    requires { IsSimple table.now 7 }
-{
-    let mut texts = String::new(alloc);
-    if let Ok(Some(members)) = table.attr_list(7, 8) {
-        for member in members {
-            texts.push_str(member_text(alloc, table, member)?.as_str())?;
-            texts.push(' ')?;
+pub(crate) fn members_text(alloc: Global, table: &Table<'_>) -> Result<String, AllocError> {
+    let mut text = String::new(alloc);
+    if is_simple(table, 7) {
+        if let Ok(Some(members)) = table.attr_list(7, 8) {
+            for member in members {
+                push_member(&mut text, table, member)?;
+            }
         }
     }
-    Ok(texts)
+    Ok(text)
 }
 
 #[test]
-fn reads_members(rt: HostRuntime) -> Result<(), Fail> {
-    let table = Table::of(rt.alloc(), parse_file(rt.alloc(), SAMPLE.as_bytes())?)?;
-    if !is_simple(&table, 7) {
-        return Err(Fail::new("#7 is not there"));
-    }
-    let texts = members_text(rt.alloc(), &table)?;
-    let wanted = "#9 - 3000000000000 4000000000000 Dangling 7 8 NumberTooLarge 7 - ";
-    assert_eq!(rt; texts.as_str(), wanted);
-    Ok(())
+fn reads_members(rt: HostRuntime) {
+    let want = "#9 - 3000000000000 4000000000000 Dangling 7 8 NumberTooLarge 7 - ";
+    assert!(rt; answers(rt.alloc(), Asked::Members, SAMPLE, want));
 }
 
-/// The number of the instance that a number finds, and where it begins.
-fn place_of(table: &Table<'_>, number: u64) -> Option<(u64, usize)> {
-    table.get(number).map(|found| (found.number, found.from))
+/// The source of a table.
+pub(crate) fn source_text(alloc: Global, table: &Table<'_>) -> Result<String, AllocError> {
+    String::from_str(alloc, std::str::from_utf8(table.source()).unwrap_or("?"))
+}
+
+/// Whether an instance is found by its number.
+fn is_found(table: &Table<'_>, instance: &Instance) -> bool {
+    match table.get(instance.number) {
+        Some(found) => found.number == instance.number && found.from == instance.from,
+        None => false,
+    }
+}
+
+/// The numbers of the instances in the order of the file; `?` stands for one that is not found by its number.
+pub(crate) fn instances_text(alloc: Global, table: &Table<'_>) -> Result<String, AllocError> {
+    let mut text = String::new(alloc);
+    for instance in table.instances() {
+        if is_found(table, instance) {
+            write!(text, "#{} ", instance.number)?;
+        } else {
+            text.push_str("? ")?;
+        }
+    }
+    Ok(text)
+}
+
+/// The number of the instance that a number finds.
+pub(crate) fn found_text(
+    alloc: Global,
+    table: &Table<'_>,
+    number: u64,
+) -> Result<String, AllocError> {
+    match table.get(number) {
+        Some(found) => format!(in alloc; "#{}", found.number),
+        None => String::from_str(alloc, "none"),
+    }
 }
 
 #[test]
-fn finds_instances(rt: HostRuntime) -> Result<(), Fail> {
-    let table = Table::of(rt.alloc(), parse_file(rt.alloc(), SAMPLE.as_bytes())?)?;
-    assert_eq!(rt; table.source(), SAMPLE.as_bytes());
-    let found = table.instances();
-    assert_eq!(rt; found.len(), 3);
-    for (instance, number) in found.iter().zip([7, 9, 13]) {
-        let place = Some((number, instance.from));
-        assert_eq!(rt; place_of(&table, number), place, "at {number}");
-        assert_eq!(rt; instance.number, number);
-    }
+fn finds_instances(rt: HostRuntime) {
+    assert!(rt; answers(rt.alloc(), Asked::Source, SAMPLE, SAMPLE));
+    assert!(rt; answers(rt.alloc(), Asked::Instances, SAMPLE, "#7 #9 #13 "));
     for number in [0, 1, 6, 8, 10, 12, 14, 999_999_999_999_999_999] {
-        assert!(rt; table.get(number).is_none(), "at {number}");
+        assert!(rt;
+            answers(rt.alloc(), Asked::Found(number), SAMPLE, "none"),
+            "at {number}"
+        );
     }
-    Ok(())
 }
