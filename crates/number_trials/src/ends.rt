@@ -65,6 +65,17 @@ fn hands_on_to_a_writer(rt: HostRuntime) -> Result<(), Fail> {
     Ok(())
 }
 
+/// How many of five bytes the sink of a writer takes by one call.
+fn taken_at_once(alloc: Global) -> Option<usize> {
+    let mut taken = Vec::new(alloc);
+    StdSink::new(&mut taken).put(b"abcde").ok()
+}
+
+#[test]
+fn takes_a_piece_at_once(rt: HostRuntime) {
+    assert!(rt; taken_at_once(rt.alloc()) == Some(5));
+}
+
 /// A source of five bytes that gives two at most, and fails at these calls.
 fn failing(alloc: Global, fail_at: &[u64]) -> Result<FailSource, AllocError> {
     let bytes = Vec::from_array(alloc, [1u8, 2, 3, 4, 5])?;
