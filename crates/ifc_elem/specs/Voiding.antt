@@ -1,6 +1,7 @@
 -- The relations that void an element, as they are listed by its number.
 use Rattle.std.specs.Prelude.{◌≡◌, ℕ, Bool, false, nat_eq, List, [], Vec, Option, Some, None}
-use Rattle.indexmap.specs.IndexMap.{get}
+use Rattle.std.specs.BTreeMap.{get}
+use Rattle.std.specs.Ordering.{nat_cmp}
 use Rattle.spec_table.specs.Sections.{DataSection}
 use Rattle.spec_geometry.specs.Elements.{voiding}
 use Rattle.ifc_elem.specs.declared.openings.Openings.{Openings}
@@ -14,7 +15,7 @@ is_number n None = false
 is_number n (Some m) = nat_eq m n
 
 abbrev pub relations_of : Openings → ℕ → List ℕ
-relations_of openings element = listed (get nat_eq openings.relations element)
+relations_of openings element = listed (get nat_cmp openings.relations element)
 
 -- the relations listed for each number are those that void the element of that number
 abbrev pub IsIndexOf : Openings → DataSection → Type 0

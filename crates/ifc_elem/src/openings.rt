@@ -1,19 +1,20 @@
-ghost use Rattle.std.specs.Prelude.{◌≡◌, ℕ, ◌++◌, ◌∷◌, [], ◌==◌, nat_eq, filter, map, OnOk, IfOk, if◌then◌else◌};
-ghost use Rattle.indexmap.specs.IndexMap.{get};
+ghost use Rattle.std.specs.Prelude.{◌≡◌, ℕ, ◌++◌, ◌∷◌, [], ◌==◌, filter, map, OnOk, IfOk, if◌then◌else◌};
+ghost use Rattle.std.specs.BTreeMap.{get};
+ghost use Rattle.std.specs.Ordering.{nat_cmp};
 ghost use Rattle.spec_entity.specs.Elements.{voids};
 ghost use Rattle.ifc_elem.specs.Voiding.{listed, is_number, relations_of, IsIndexOf};
 
 use entity_reader::has_kind;
 use ifc_kinds::Kind;
-use indexmap::IndexMap;
 use spec_step::Instance;
 use std::alloc::{AllocError, Global};
+use std::collections::BTreeMap;
 use step_table::Table;
 
 /// The relations of a file that void an element (IfcRelVoidsElement), by its number.
 #[derive(Drop)]
 pub struct Openings {
-    relations: IndexMap<u64, Vec<u64>>,
+    relations: BTreeMap<u64, Vec<u64>>,
 }
 
 /// The element that an instance voids, if it is a relation that voids one.
@@ -32,13 +33,13 @@ fn voided(table: &Table<'_>, number: u64) -> Option<u64>
 /// Puts a relation behind those of its element.
 fn note(
     alloc: Global,
-    relations: &mut IndexMap<u64, Vec<u64>>,
+    relations: &mut BTreeMap<u64, Vec<u64>>,
     element: u64,
     relation: u64,
 ) -> Result<(), AllocError>
-    ensures { OnOk result ((n : ℕ) → listed (get nat_eq relations.new n) ≡ listed (get nat_eq relations.old n) ++ (if element == n then relation ∷ [] else [])) }
+    ensures { OnOk result ((n : ℕ) → listed (get nat_cmp relations.new n) ≡ listed (get nat_cmp relations.old n) ++ (if element == n then relation ∷ [] else [])) }
 {
-    let mut found = relations.swap_remove(&element).unwrap_or(Vec::new(alloc));
+    let mut found = relations.remove(&element).unwrap_or(Vec::new(alloc));
     found.push(relation)?;
     relations.insert(element, found)?;
     Ok(())
@@ -49,10 +50,10 @@ fn listed_among(
     alloc: Global,
     table: &Table<'_>,
     instances: &[Instance],
-) -> Result<IndexMap<u64, Vec<u64>>, AllocError>
-    ensures { IfOk result (λ relations. (n : ℕ) → listed (get nat_eq relations n) ≡ filter (voids table.now n) (map (λ i. i.number) instances.now)) }
+) -> Result<BTreeMap<u64, Vec<u64>>, AllocError>
+    ensures { IfOk result (λ relations. (n : ℕ) → listed (get nat_cmp relations n) ≡ filter (voids table.now n) (map (λ i. i.number) instances.now)) }
 {
-    let mut relations = IndexMap::new(alloc);
+    let mut relations = BTreeMap::new(alloc);
     for instance in instances {
         if let Some(element) = voided(table, instance.number) {
             note(alloc, &mut relations, element, instance.number)?;
