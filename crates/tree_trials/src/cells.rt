@@ -58,27 +58,29 @@ fn answer(
 /// The square between 0 and 4 along x and y.
 const SQUARE: [Side; 4] = [(6, true), (7, false), (8, true), (9, false)];
 
+/// Paths, numbers of planes, and where the cells of the paths lie at the planes.
+const CUTS: [(&[Side], u32, Cut); 9] = [
+    (&[], 0, Cut::FrontOnly),
+    (&[], 1, Cut::BackOnly),
+    (&[], 11, Cut::Crosses),
+    (&SQUARE, 6, Cut::FrontOnly),
+    (&SQUARE, 7, Cut::BackOnly),
+    (&SQUARE, 10, Cut::Crosses),
+    (&SQUARE, 11, Cut::Crosses),
+    // x + y = 4 touches the corner of x > 4, y > 0 alone.
+    (&[(7, true), (8, true)], 11, Cut::FrontOnly),
+    // The path has no point.
+    (&[(6, false), (7, true)], 1, Cut::FrontOnly),
+];
+
 #[test]
 fn tells_the_sides(rt: HostRuntime) -> Result<(), AllocError> {
     let book = book_of(rt.alloc(), &PLANES)?;
-    let beside: [Side; 2] = [(7, true), (8, true)];
-    let nowhere: [Side; 2] = [(6, false), (7, true)];
-    let cases: [(&[Side], u32, Cut); 9] = [
-        (&[], 0, Cut::FrontOnly),
-        (&[], 1, Cut::BackOnly),
-        (&[], 11, Cut::Crosses),
-        (&SQUARE, 6, Cut::FrontOnly),
-        (&SQUARE, 7, Cut::BackOnly),
-        (&SQUARE, 10, Cut::Crosses),
-        (&SQUARE, 11, Cut::Crosses),
-        // x + y = 4 touches the corner of x > 4, y > 0 alone.
-        (&beside, 11, Cut::FrontOnly),
-        // The path has no point.
-        (&nowhere, 1, Cut::FrontOnly),
-    ];
-    for (path, k, want) in cases {
-        let found = answer(rt.alloc(), &book, path, k)?;
-        assert_eq!(rt; found, Some(want), "at {k}");
+    for (path, k, want) in &CUTS {
+        assert!(rt;
+            answer(rt.alloc(), &book, path, *k)? == Some(*want),
+            "at {k}"
+        );
     }
     Ok(())
 }
@@ -100,17 +102,22 @@ fn corner_count(
     }
 }
 
+/// Paths, numbers of planes, and how many corners the planes' parts of the cells have.
+const PARTS: [(&[Side], u32, usize); 4] = [
+    (&SQUARE, 10, 4),
+    (&SQUARE, 6, 0),
+    (&[(11, false), (6, true), (8, true)], 10, 3),
+    (&[], 1, 0),
+];
+
 #[test]
 fn finds_the_part_of_a_plane(rt: HostRuntime) -> Result<(), AllocError> {
     let book = book_of(rt.alloc(), &PLANES)?;
-    let cases: [(&[Side], u32, usize); 4] = [
-        (&SQUARE, 10, 4),
-        (&SQUARE, 6, 0),
-        (&[(11, false), (6, true), (8, true)], 10, 3),
-        (&[], 1, 0),
-    ];
-    for (path, k, want) in cases {
-        assert_eq!(rt; corner_count(rt.alloc(), &book, path, k)?, want, "at {k}");
+    for (path, k, want) in &PARTS {
+        assert!(rt;
+            corner_count(rt.alloc(), &book, path, *k)? == *want,
+            "at {k}"
+        );
     }
     Ok(())
 }
@@ -135,20 +142,27 @@ fn steps_left(
     }
 }
 
+/// How many corners and steps the cell of no step has.
+fn counts_at_the_root(alloc: Global) -> Result<(usize, usize), AllocError> {
+    let cell = Cell::root(alloc)?;
+    Ok((cell.corners.len(), cell.steps.len()))
+}
+
+/// x > 0 and then x > 4, x > 4 and then x > 0, x > 0 and y > 0, x < 0 and x > 4; and how many steps are left.
+const STEPS: [(Side, Side, usize); 4] = [
+    ((6, true), (7, true), 1),
+    ((7, true), (6, true), 1),
+    ((6, true), (8, true), 2),
+    ((6, false), (7, true), 0),
+];
+
 #[test]
 fn leaves_out_steps_that_cut_nothing_off(rt: HostRuntime) -> Result<(), AllocError> {
-    let cell = Cell::root(rt.alloc())?;
-    assert!(rt; cell.corners.len() == 8 && cell.steps.is_empty());
+    assert!(rt; counts_at_the_root(rt.alloc())? == (8, 0));
     let book = book_of(rt.alloc(), &PLANES)?;
-    // x > 0 and then x > 4, x > 4 and then x > 0, x > 0 and y > 0, x < 0 and x > 4.
-    for (first, second, want) in [
-        ((6, true), (7, true), 1),
-        ((7, true), (6, true), 1),
-        ((6, true), (8, true), 2),
-        ((6, false), (7, true), 0),
-    ] {
-        let left = steps_left(rt.alloc(), &book, first, second)?;
-        assert_eq!(rt; left, want, "at {first:?} and {second:?}");
+    for (first, second, want) in &STEPS {
+        let left = steps_left(rt.alloc(), &book, *first, *second)?;
+        assert!(rt; left == *want, "at {first:?} and {second:?}");
     }
     Ok(())
 }

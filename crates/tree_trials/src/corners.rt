@@ -3,8 +3,7 @@ ghost use Rattle.corner_book.specs.Corners.{MeetIn, IsMadeWith};
 
 use corner_book::{CornerBook, before_on_line};
 use plane_core::{Corner, PlaneBook, PlaneId, meet};
-use std::alloc::AllocError;
-use std::test::Fail;
+use std::alloc::{AllocError, Global};
 
 /// The corner in which three planes of the book meet, if there is one.
 fn meeting(book: &PlaneBook, p: PlaneId, q: PlaneId, r: PlaneId) -> Option<Corner>
@@ -38,20 +37,31 @@ fn add_at(
     }
 }
 
+/// Whether the corners on the line of the walls of the greatest x and y have the first two places.
+fn are_on_line(alloc: Global, book: &PlaneBook, corners: &CornerBook) -> Result<bool, AllocError>
+    requires made { IsMadeWith book.now corners.now }
+{
+    if book.count() < 4 {
+        return Ok(false);
+    }
+    let line = corners.on_line(alloc, book, PlaneId { k: 3 }, PlaneId { k: 1 })?;
+    Ok(line.as_slice() == [0, 1].as_slice())
+}
+
+/// Whether there are two corners, and the second stands before the first on their line.
+fn second_is_before_first(corners: &CornerBook) -> bool {
+    corners.count() == 2 && before_on_line(corners.corner(1), corners.corner(0))
+}
+
 /// The walls 2 and 3 are those of the least and the greatest y, and 4 and 5 those of z.
 #[test]
-fn gives_each_corner_one_place(rt: HostRuntime) -> Result<(), Fail> {
+fn gives_each_corner_one_place(rt: HostRuntime) -> Result<(), AllocError> {
     let book = PlaneBook::new(rt.alloc())?;
     let mut corners = CornerBook::new(rt.alloc());
-    let first = add_at(&book, &mut corners, 3, 5)?;
-    let second = add_at(&book, &mut corners, 3, 4)?;
-    let again = add_at(&book, &mut corners, 5, 3)?;
-    assert!(rt; (first, second, again) == (Some(0), Some(1), Some(0)));
-    let line = corners.on_line(rt.alloc(), &book, PlaneId { k: 3 }, PlaneId { k: 1 })?;
-    assert!(rt; line.as_slice() == [0, 1].as_slice());
-    assert_eq!(rt; corners.count(), 2);
-    if corners.count() == 2 {
-        assert!(rt; before_on_line(corners.corner(1), corners.corner(0)));
-    }
+    assert!(rt; add_at(&book, &mut corners, 3, 5)? == Some(0));
+    assert!(rt; add_at(&book, &mut corners, 3, 4)? == Some(1));
+    assert!(rt; add_at(&book, &mut corners, 5, 3)? == Some(0));
+    assert!(rt; are_on_line(rt.alloc(), &book, &corners)?);
+    assert!(rt; second_is_before_first(&corners));
     Ok(())
 }

@@ -2,12 +2,13 @@ ghost use Rattle.std.specs.Prelude.{IfOk, IfSome};
 ghost use Rattle.poly_frag.specs.Cycles.{IsFragment};
 
 use crate::books::{Numbers, book_of};
+use crate::trees::Side;
 use plane_core::{PlaneBook, PlaneId};
 use poly_frag::{Frag, Split, corners, on_cube, split};
 use std::alloc::{AllocError, Global};
 
 /// The four numbers of a corner.
-pub(crate) type Place = (i128, i128, i128, i128);
+type Place = (i128, i128, i128, i128);
 
 /// The size of a coordinate on a wall of the cube.
 const M: i128 = 1_048_577;
@@ -45,7 +46,7 @@ fn places(alloc: Global, book: &PlaneBook, part: &Option<Frag>) -> Result<Vec<Pl
 }
 
 /// What lies of a plane in the cube, if anything does.
-pub(crate) fn whole(alloc: Global, book: &PlaneBook, k: u32) -> Result<Option<Frag>, AllocError>
+fn whole(alloc: Global, book: &PlaneBook, k: u32) -> Result<Option<Frag>, AllocError>
     ensures { IfOk result (λ o. IfSome o (IsFragment book.now)) }
 {
     if k as usize >= book.count() {
@@ -55,7 +56,7 @@ pub(crate) fn whole(alloc: Global, book: &PlaneBook, k: u32) -> Result<Option<Fr
 }
 
 /// The part of a fragment in front of a plane, and the part behind it, as far as there are such parts.
-pub(crate) fn parts(
+fn parts(
     alloc: Global,
     book: &PlaneBook,
     part: &Option<Frag>,
@@ -77,15 +78,29 @@ pub(crate) fn parts(
     }
 }
 
+/// The part of a fragment on a side of a plane, if there is one.
+fn half(
+    alloc: Global,
+    book: &PlaneBook,
+    part: Option<Frag>,
+    side: Side,
+) -> Result<Option<Frag>, AllocError>
+    requires fragment { IfSome part (IsFragment book.now) }
+    ensures fragment { IfOk result (λ o. IfSome o (IsFragment book.now)) }
+{
+    let (front, back) = parts(alloc, book, &part, side.0)?;
+    Ok(if side.1 { front } else { back })
+}
+
 /// The square between 0 and 4 along x and y in the plane z = 0.
 fn square(alloc: Global, book: &PlaneBook) -> Result<Option<Frag>, AllocError>
     ensures fragment { IfOk result (λ o. IfSome o (IsFragment book.now)) }
 {
     let part = whole(alloc, book, 6)?;
-    let part = parts(alloc, book, &part, 7)?.0;
-    let part = parts(alloc, book, &part, 8)?.1;
-    let part = parts(alloc, book, &part, 9)?.0;
-    Ok(parts(alloc, book, &part, 10)?.1)
+    let part = half(alloc, book, part, (7, true))?;
+    let part = half(alloc, book, part, (8, false))?;
+    let part = half(alloc, book, part, (9, true))?;
+    half(alloc, book, part, (10, false))
 }
 
 /// The square whole.
@@ -120,25 +135,37 @@ const CUTS: [(u32, &[Place], &[Place]); 7] = [
     (17, &ALL, &[]),
 ];
 
-/// The corners of what lies of the square in front of the plane of a number, and of what lies behind it.
-fn cut_places(
+/// Whether a fragment has these corners.
+fn is_at(
+    alloc: Global,
+    book: &PlaneBook,
+    part: &Option<Frag>,
+    want: &[Place],
+) -> Result<bool, AllocError>
+    requires fragment { IfSome part.now (IsFragment book.now) }
+{
+    Ok(places(alloc, book, part)?.as_slice() == want)
+}
+
+/// Whether these are the corners of what lies of the square in front of the plane of a number, and of what lies behind it.
+fn are_cut(
     alloc: Global,
     book: &PlaneBook,
     by: u32,
-) -> Result<(Vec<Place>, Vec<Place>), AllocError> {
+    in_front: &[Place],
+    behind: &[Place],
+) -> Result<bool, AllocError> {
     let square = square(alloc, book)?;
     let (front, back) = parts(alloc, book, &square, by)?;
-    Ok((places(alloc, book, &front)?, places(alloc, book, &back)?))
+    Ok(is_at(alloc, book, &front, in_front)? && is_at(alloc, book, &back, behind)?)
 }
 
 #[test]
 fn cuts_a_square(rt: HostRuntime) -> Result<(), AllocError> {
     let book = book_of(rt.alloc(), &PLANES)?;
-    for (by, in_front, behind) in CUTS {
-        let (front, back) = cut_places(rt.alloc(), &book, by)?;
-        assert_eq!(rt;
-            (front.as_slice(), back.as_slice()),
-            (in_front, behind),
+    for (by, in_front, behind) in &CUTS {
+        assert!(rt;
+            are_cut(rt.alloc(), &book, *by, in_front, behind)?,
             "by {by}"
         );
     }
@@ -166,12 +193,16 @@ const WHOLE: [(u32, &[Place]); 4] = [
     ),
 ];
 
+/// Whether what lies in the cube of a plane has these corners.
+fn is_whole(alloc: Global, book: &PlaneBook, k: u32, want: &[Place]) -> Result<bool, AllocError> {
+    is_at(alloc, book, &whole(alloc, book, k)?, want)
+}
+
 #[test]
 fn finds_the_part_in_the_cube(rt: HostRuntime) -> Result<(), AllocError> {
     let book = book_of(rt.alloc(), &PLANES)?;
-    for (k, want) in WHOLE {
-        let found = places(rt.alloc(), &book, &whole(rt.alloc(), &book, k)?)?;
-        assert_eq!(rt; found.as_slice(), want, "at {k}");
+    for (k, want) in &WHOLE {
+        assert!(rt; is_whole(rt.alloc(), &book, *k, want)?, "at {k}");
     }
     Ok(())
 }

@@ -1,4 +1,6 @@
+ghost use Rattle.std.specs.Prelude.{IfOk};
 ghost use Rattle.tree_pool.specs.Pools.{IsLive};
+ghost use Rattle.tree_pool.specs.declared.node.TreeId.{TreeId};
 
 use crate::books::{Numbers, book_of, point};
 use crate::trees::{Side, inside};
@@ -90,12 +92,12 @@ fn value_in(bits: u8, first: bool, second: bool) -> bool {
 fn agrees(pool: &Pool, tree: TreeId, book: &PlaneBook, bits: u8, is_slanted: bool) -> bool
     requires live { IsLive pool.now tree }
 {
-    for (place, first, cube, slanted) in TOLD {
-        let Some(corner) = point(place, 1) else {
+    for (place, first, cube, slanted) in &TOLD {
+        let Some(corner) = point(*place, 1) else {
             return false;
         };
-        let second = if is_slanted { slanted } else { cube };
-        if value_at(pool, tree, book, &corner) != Some(value_in(bits, first, second)) {
+        let second = if is_slanted { *slanted } else { *cube };
+        if value_at(pool, tree, book, &corner) != Some(value_in(bits, *first, second)) {
             return false;
         }
     }
@@ -129,17 +131,18 @@ fn first_faulty(
     Ok(None)
 }
 
+/// The first of the tables under which the merge of the first cube and of a body does not agree.
+fn faulty_table(alloc: Global, body: &[Side], is_slanted: bool) -> Result<Option<u8>, AllocError> {
+    let mut pool = Pool::new(alloc)?;
+    let a = inside(&mut pool, &FIRST)?;
+    let b = inside(&mut pool, body)?;
+    first_faulty(alloc, &mut pool, a, b, is_slanted)
+}
+
 #[test]
 fn merges_a_cube_and_a_body_under_all_tables(rt: HostRuntime) -> Result<(), AllocError> {
-    for (other, is_slanted) in [(SECOND.as_slice(), false), (SLANTED.as_slice(), true)] {
-        let mut pool = Pool::new(rt.alloc())?;
-        let a = inside(&mut pool, &FIRST)?;
-        let b = inside(&mut pool, other)?;
-        assert_eq!(rt;
-            first_faulty(rt.alloc(), &mut pool, a, b, is_slanted)?,
-            None
-        );
-    }
+    assert!(rt; faulty_table(rt.alloc(), &SECOND, false)?.is_none());
+    assert!(rt; faulty_table(rt.alloc(), &SLANTED, true)?.is_none());
     Ok(())
 }
 
@@ -152,30 +155,58 @@ fn backs(alloc: Global, numbers: Range<u32>) -> Result<Vec<Side>, AllocError> {
     Ok(sides)
 }
 
+/// The tree of what is behind all planes of these numbers.
+fn chain(alloc: Global, pool: &mut Pool, numbers: Range<u32>) -> Result<TreeId, AllocError>
+    ensures live { IfOk result (IsLive pool.new) }
+    ensures still_live { (id : TreeId) → IsLive pool.old id → IsLive pool.new id }
+{
+    let sides = backs(alloc, numbers)?;
+    inside(pool, sides.as_slice())
+}
+
+/// The planes x = 0, 1, 2 and so on, and then those of y.
+fn chained_planes(alloc: Global) -> Result<Vec<Numbers>, AllocError> {
+    let mut planes = Vec::new(alloc);
+    for d in 0..4096u16 {
+        planes.push([1, 0, 0, i64::from(d)])?;
+    }
+    for d in 0..4096u16 {
+        planes.push([0, 1, 0, i64::from(d)])?;
+    }
+    Ok(planes)
+}
+
+/// The book of those planes.
+fn chained_book(alloc: Global) -> Result<PlaneBook, AllocError> {
+    let planes = chained_planes(alloc)?;
+    book_of(alloc, planes.as_slice())
+}
+
+/// The value of a tree at the point behind all planes of the chains.
+fn value_behind(pool: &Pool, tree: TreeId, book: &PlaneBook) -> Option<bool>
+    requires live { IsLive pool.now tree }
+{
+    value_at(pool, tree, book, &point([-1, -1, 0], 2)?)
+}
+
+const BOTH: Table4 = Table4 {
+    both: true,
+    first_only: false,
+    second_only: false,
+    neither: false,
+};
+
 /// One tree is of what is behind all of x = 0, 1, 2 and so on, and the other of y.
 #[test]
 fn merges_high_chains(rt: HostRuntime) -> Result<(), AllocError> {
-    let mut planes = Vec::new(rt.alloc());
-    for (a, b) in [(1, 0), (0, 1)] {
-        for d in 0..4096u16 {
-            planes.push([a, b, 0, i64::from(d)])?;
-        }
-    }
-    let book = book_of(rt.alloc(), &planes)?;
+    let book = chained_book(rt.alloc())?;
     let mut pool = Pool::new(rt.alloc())?;
-    let a = inside(&mut pool, &backs(rt.alloc(), 6..4102)?)?;
-    let b = inside(&mut pool, &backs(rt.alloc(), 4102..8198)?)?;
-    let both = Table4 {
-        both: true,
-        first_only: false,
-        second_only: false,
-        neither: false,
-    };
-    assert_eq!(rt; pool.count(), 2 + 2 * 4096);
-    let tree = merge(rt.alloc(), &book, &mut pool, a, b, both)?;
+    let a = chain(rt.alloc(), &mut pool, 6..4102)?;
+    let b = chain(rt.alloc(), &mut pool, 4102..8198)?;
+    assert!(rt; pool.count() == 2 + 2 * 4096);
+    let tree = merge(rt.alloc(), &book, &mut pool, a, b, BOTH)?;
     // The nodes of the second chain are there already.
-    assert_eq!(rt; pool.count(), 2 + 3 * 4096);
-    let corner = point([-1, -1, 0], 2).expect(&rt, "a corner");
-    assert_eq!(rt; value_at(&pool, tree, &book, &corner), Some(true));
+    assert!(rt; pool.count() == 2 + 3 * 4096);
+    assert!(rt; value_behind(&pool, tree, &book) == Some(true));
     Ok(())
 }

@@ -57,6 +57,14 @@ fn lowered(alloc: Global, places: &[Place], low: u32) -> Result<Vec<Place>, Allo
     Ok(lowered)
 }
 
+/// The face below some places, at one height.
+fn bottom(alloc: Global, top: &[Place], low: u32) -> Result<Face, Fail>
+    ensures { IfOk result IsSmall }
+{
+    let places = lowered(alloc, top, low)?;
+    face(alloc, 7, places.as_slice())
+}
+
 /// Appends the faces of a prism that stands at a height, its top given by the places of its corners.
 pub(crate) fn push_prism(
     alloc: Global,
@@ -67,12 +75,12 @@ pub(crate) fn push_prism(
     requires { All IsSmall faces.old.items }
     ensures { All IsSmall faces.new.items }
 {
-    let bottom = lowered(alloc, top, low)?;
-    faces.push(face(alloc, 7, bottom.as_slice())?)?;
+    faces.push(bottom(alloc, top, low)?)?;
     faces.push(face(alloc, 7, top)?)?;
     for k in 0..top.len() {
         let next = if k + 1 < top.len() { k + 1 } else { 0 };
-        let side = [bottom[k], bottom[next], top[next], top[k]];
+        let (from, to) = (top[k], top[next]);
+        let side = [(from.0, from.1, low), (to.0, to.1, low), to, from];
         faces.push(face(alloc, 7, &side)?)?;
     }
     Ok(())

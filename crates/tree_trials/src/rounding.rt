@@ -3,7 +3,7 @@ ghost use Rattle.spec_place.specs.Vectors.{IsWithin};
 
 use crate::prisms::face;
 use grid_round::{RoundFault, round_solid};
-use grid_solid::{GridNode, GridShell, GridSolid};
+use grid_solid::{GridNode, GridSolid, GridTriangle};
 use ix_place::{Dir, Frame, Map};
 use solid_expr::{ElementSolid, Face, Item, Solid, block_faces};
 use spec_refusal::Refusal;
@@ -48,14 +48,10 @@ fn open_cube(alloc: Global, at: u64, length: u32) -> Result<Vec<Face>, AllocErro
 fn tetrahedron(alloc: Global, x: u32, y: u32, z: u32) -> Result<Vec<Face>, Fail> {
     let (low, a, b, c) = ((0, 0, 0), (x, 0, 0), (0, y, 0), (0, 0, z));
     let mut faces = Vec::new(alloc);
-    for (at, corners) in [
-        (11, [low, b, a]),
-        (12, [low, c, b]),
-        (13, [low, a, c]),
-        (14, [a, b, c]),
-    ] {
-        faces.push(face(alloc, at, &corners)?)?;
-    }
+    faces.push(face(alloc, 11, &[low, b, a])?)?;
+    faces.push(face(alloc, 12, &[low, c, b])?)?;
+    faces.push(face(alloc, 13, &[low, a, c])?)?;
+    faces.push(face(alloc, 14, &[a, b, c])?)?;
     Ok(faces)
 }
 
@@ -102,66 +98,108 @@ fn element(alloc: Global, item: Shape, opening: Shape) -> Result<ElementSolid, F
     })
 }
 
-/// The shell of the first item, if it is one.
-fn first_shell(solid: &GridSolid) -> Option<&GridShell> {
+/// Whether the first item is a shell of 24 triangles, of which one has the top corner second.
+fn has_cube(solid: &GridSolid) -> bool {
     match solid.items.get(0) {
-        Some(GridNode::Shell(shell)) => Some(shell),
-        _ => None,
+        Some(GridNode::Shell(shell)) => {
+            let triangles = shell.triangles.as_slice();
+            triangles.len() == 24 && has_corner(triangles, &Vector { x: 3, y: 3, z: 3 })
+        }
+        _ => false,
     }
+}
+
+/// Whether a corner is the second of one of the triangles.
+fn has_corner(triangles: &[GridTriangle], corner: &Vector) -> bool {
+    for triangle in triangles {
+        if triangle.b == *corner {
+            return true;
+        }
+    }
+    false
+}
+
+/// Whether the first opening is the half-space in front of z = 5.
+fn has_half_space(solid: &GridSolid) -> bool {
+    match solid.openings.get(0) {
+        Some(GridNode::HalfSpace { plane, in_front }) => {
+            *in_front && plane.a == 0 && plane.b == 0 && plane.c == 1 && plane.d == 5
+        }
+        _ => false,
+    }
+}
+
+/// A solid and an opening on a grid.
+fn rounded(alloc: Global, item: Shape, opening: Shape) -> Result<GridSolid, Fail> {
+    let element = element(alloc, item, opening)?;
+    Ok(round_solid(alloc, &element, 1000)?)
 }
 
 /// On a grid of a millimetre.
 #[test]
 fn rounds_a_cube_and_reduces_a_half_space(rt: HostRuntime) -> Result<(), Fail> {
-    let element = element(rt.alloc(), Shape::Cube(7, 2_500_000), Shape::Half(8, false))?;
-    let solid = round_solid(rt.alloc(), &element, 1000)?;
-    let Some(shell) = first_shell(&solid) else {
-        return Err(Fail::from("no shell"));
-    };
-    assert_eq!(rt; shell.triangles.len(), 24);
-    let top = Vector { x: 3, y: 3, z: 3 };
-    assert!(rt; shell.triangles.as_slice().iter().any(|t| t.b == top));
-    let Some(GridNode::HalfSpace { plane, in_front }) = solid.openings.get(0) else {
-        return Err(Fail::from("no half-space"));
-    };
-    assert_eq!(rt; (plane.a, plane.b, plane.c, plane.d), (0, 0, 1, 5));
-    assert!(rt; *in_front);
+    let solid = rounded(rt.alloc(), Shape::Cube(7, 2_500_000), Shape::Half(8, false))?;
+    assert!(rt; has_cube(&solid));
+    assert!(rt; has_half_space(&solid));
     Ok(())
 }
 
-/// On a grid of a micrometre.
+/// Why a solid and an opening are refused on a grid of a micrometre, if they are.
+fn refusal(alloc: Global, item: Shape, opening: Shape) -> Result<Option<RoundFault>, Fail> {
+    let element = element(alloc, item, opening)?;
+    Ok(round_solid(alloc, &element, 1).err())
+}
+
+const HALF: Shape = Shape::Half(8, true);
+
+/// Where the open cube of the trials is open.
+const OPEN_EDGE: Refusal = Refusal::OpenShell {
+    at: 9,
+    from: Vector {
+        x: 0,
+        y: 0,
+        z: 1000,
+    },
+    to: Vector {
+        x: 0,
+        y: 1000,
+        z: 1000,
+    },
+};
+
+/// Items, openings, and why they are refused.
+const REFUSALS: [(Shape, Shape, Option<RoundFault>); 6] = [
+    (Shape::Cube(7, 1_048_576_000), HALF, None),
+    (
+        Shape::Cube(7, 1_048_577_000),
+        HALF,
+        Some(RoundFault::Refused(Refusal::CornerTooFar { at: 7 })),
+    ),
+    (
+        HALF,
+        Shape::OpenCube(7, 1000),
+        Some(RoundFault::Refused(Refusal::Unbounded { at: 1 })),
+    ),
+    (
+        Shape::OpenCube(9, 1_000_000),
+        Shape::Cube(7, 2_000_000_000),
+        Some(RoundFault::Refused(OPEN_EDGE)),
+    ),
+    (Shape::Tetrahedron(8191, 8192, 1), HALF, None),
+    (
+        Shape::Tetrahedron(8192, 8193, 1),
+        HALF,
+        Some(RoundFault::Refused(Refusal::PlaneTooLarge { at: 14 })),
+    ),
+];
+
 #[test]
 fn names_the_first_refusal(rt: HostRuntime) -> Result<(), Fail> {
-    let half = Shape::Half(8, true);
-    let along_y = |y| Vector { x: 0, y, z: 1000 };
-    let (from, to) = (along_y(0), along_y(1000));
-    for (item, opening, want) in [
-        (Shape::Cube(7, 1_048_576_000), half, None),
-        (
-            Shape::Cube(7, 1_048_577_000),
-            half,
-            Some(Refusal::CornerTooFar { at: 7 }),
-        ),
-        (
-            half,
-            Shape::OpenCube(7, 1000),
-            Some(Refusal::Unbounded { at: 1 }),
-        ),
-        (
-            Shape::OpenCube(9, 1_000_000),
-            Shape::Cube(7, 2_000_000_000),
-            Some(Refusal::OpenShell { at: 9, from, to }),
-        ),
-        (Shape::Tetrahedron(8191, 8192, 1), half, None),
-        (
-            Shape::Tetrahedron(8192, 8193, 1),
-            half,
-            Some(Refusal::PlaneTooLarge { at: 14 }),
-        ),
-    ] {
-        let element = element(rt.alloc(), item, opening)?;
-        let fault = round_solid(rt.alloc(), &element, 1).err();
-        assert_eq!(rt; fault, want.map(RoundFault::Refused));
+    for (item, opening, want) in &REFUSALS {
+        assert!(rt;
+            refusal(rt.alloc(), *item, *opening)? == *want,
+            "not {want:?}"
+        );
     }
     Ok(())
 }

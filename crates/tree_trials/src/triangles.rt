@@ -4,7 +4,6 @@ ghost use Rattle.ray_law.specs.Ranges.{AreSteps};
 use grid_solid::GridTriangle;
 use plane_core::Plane;
 use spec_space::Vector;
-use std::test::Fail;
 use triangle_planes::{Forms, forms_of};
 
 /// A place in grid steps.
@@ -36,21 +35,31 @@ fn numbers(plane: &Plane) -> [i128; 4] {
     [plane.a, plane.b, plane.c, plane.d]
 }
 
-#[test]
-fn reduces_the_planes_of_a_triangle(rt: HostRuntime) -> Result<(), Fail> {
-    let t = triangle([[0, 0, 1], [2000, 0, 1], [0, 2000, 1]]);
-    let Forms::Reduced(forms) = forms_of(&t) else {
-        return Err(Fail::from("no planes"));
-    };
-    for (plane, want) in [
-        (forms.ab, [0, 1, 0, 0]),
-        (forms.bc, [1, 1, 0, 2000]),
-        (forms.ca, [1, 0, 0, 0]),
-        (forms.through, [0, 0, 1, 1]),
-    ] {
-        assert_eq!(rt; numbers(&plane), want);
+/// Whether the planes of a triangle have these numbers.
+fn are(forms: &Forms, ab: [i128; 4], bc: [i128; 4], ca: [i128; 4], through: [i128; 4]) -> bool {
+    match forms {
+        Forms::Reduced(forms) => {
+            numbers(&forms.ab) == ab
+                && numbers(&forms.bc) == bc
+                && numbers(&forms.ca) == ca
+                && numbers(&forms.through) == through
+        }
+        _ => false,
     }
-    Ok(())
+}
+
+#[test]
+fn reduces_the_planes_of_a_triangle(rt: HostRuntime) {
+    let forms = forms_of(&triangle([[0, 0, 1], [2000, 0, 1], [0, 2000, 1]]));
+    assert!(rt;
+        are(
+            &forms,
+            [0, 1, 0, 0],
+            [1, 1, 0, 2000],
+            [1, 0, 0, 0],
+            [0, 0, 1, 1]
+        )
+    );
 }
 
 fn kind(forms: &Forms) -> &'static str {
@@ -61,13 +70,16 @@ fn kind(forms: &Forms) -> &'static str {
     }
 }
 
+/// Triangles and their kinds.
+const KINDS: [([Place; 3], &str); 3] = [
+    ([[0, 0, 0], [5, 5, 0], [5, 5, 9]], "upright"),
+    ([[0, 0, 0], [8191, 0, 1], [0, 8192, 1]], "reduced"),
+    ([[0, 0, 0], [8192, 0, 1], [0, 8193, 1]], "too large"),
+];
+
 #[test]
 fn tells_upright_and_large_triangles(rt: HostRuntime) {
-    for (places, want) in [
-        ([[0, 0, 0], [5, 5, 0], [5, 5, 9]], "upright"),
-        ([[0, 0, 0], [8191, 0, 1], [0, 8192, 1]], "reduced"),
-        ([[0, 0, 0], [8192, 0, 1], [0, 8193, 1]], "too large"),
-    ] {
-        assert_eq!(rt; kind(&forms_of(&triangle(places))), want);
+    for (places, want) in &KINDS {
+        assert!(rt; kind(&forms_of(&triangle(*places))) == *want, "not {want}");
     }
 }

@@ -8,7 +8,6 @@ use face_walk::{OutFace, all_faces, faces_on};
 use plane_core::{Corner, PlaneBook, PlaneId};
 use poly_frag::corners;
 use std::alloc::{AllocError, Global};
-use std::test::Fail;
 use tree_pool::{Pool, TreeId};
 
 /// The planes x = 0, 2 and 4, numbers 6 to 8.
@@ -16,44 +15,100 @@ const PLANES: [Numbers; 3] = [[1, 0, 0, 0], [1, 0, 0, 2], [1, 0, 0, 4]];
 
 /// Whether these are the numbers of the planes of the faces, and whether their fronts are outside.
 fn are(faces: &[OutFace], wanted: &[Side]) -> bool {
-    faces.len() == wanted.len()
-        && faces.iter().zip(wanted).all(|(face, plane)| (face.frag.support.k, face.front_out)
-            == *plane)
+    if faces.len() != wanted.len() {
+        return false;
+    }
+    for (face, plane) in faces.iter().zip(wanted) {
+        if face.frag.support.k != plane.0 || face.front_out != plane.1 {
+            return false;
+        }
+    }
+    true
+}
+
+/// The tree of two slabs that touch.
+fn slabs(pool: &mut Pool) -> Result<TreeId, AllocError>
+    ensures live { IfOk result (IsLive pool.new) }
+{
+    let first = inside(pool, &[(7, false), (6, true)])?;
+    let yes = pool.leaf(true);
+    nested(pool, &[(8, false), (7, true)], yes, first)
+}
+
+/// How many faces a tree has on the plane of number 7, if there is one.
+fn count_between(
+    alloc: Global,
+    book: &PlaneBook,
+    pool: &Pool,
+    tree: TreeId,
+) -> Result<Option<usize>, AllocError>
+    requires live { IsLive pool.now tree }
+{
+    if book.count() < 8 {
+        return Ok(None);
+    }
+    Ok(Some(faces_on(alloc, book, pool, tree, PlaneId { k: 7 })?.len()))
+}
+
+/// Whether a tree has faces on just these planes, with these sides outside.
+fn has_faces(
+    alloc: Global,
+    book: &PlaneBook,
+    pool: &Pool,
+    tree: TreeId,
+    wanted: &[Side],
+) -> Result<bool, AllocError>
+    requires live { IsLive pool.now tree }
+{
+    let faces = all_faces(alloc, book, pool, tree)?;
+    Ok(are(&faces, wanted))
 }
 
 /// Two slabs that touch have no face between them.
 #[test]
-fn shows_two_slabs_that_touch(rt: HostRuntime) -> Result<(), Fail> {
+fn shows_two_slabs_that_touch(rt: HostRuntime) -> Result<(), AllocError> {
     let book = book_of(rt.alloc(), &PLANES)?;
+    assert!(rt; book.count() == 9);
     let mut pool = Pool::new(rt.alloc())?;
-    let first = inside(&mut pool, &[(7, false), (6, true)])?;
-    let yes = pool.leaf(true);
-    let tree = nested(&mut pool, &[(8, false), (7, true)], yes, first)?;
-    let faces = all_faces(rt.alloc(), &book, &pool, tree)?;
-    assert!(rt; are(&faces, &[(6, false), (8, true)]));
-    if book.count() > 8 {
-        let between = faces_on(rt.alloc(), &book, &pool, tree, PlaneId { k: 7 })?;
-        assert!(rt; between.is_empty());
-    }
-    assert_eq!(rt; book.count(), 9);
+    let tree = slabs(&mut pool)?;
+    assert!(rt; has_faces(rt.alloc(), &book, &pool, tree, &[(6, false), (8, true)])?);
+    assert!(rt; count_between(rt.alloc(), &book, &pool, tree)? == Some(0));
     Ok(())
 }
 
-/// What lies in front of each of the planes x = 1 / 4096, 2 / 4096 and so on, the last one looked at first: only the last
-/// plane, x = 1, has a face, of the number 4104.
-#[test]
-fn walks_a_chain_of_half_spaces(rt: HostRuntime) -> Result<(), Fail> {
-    let mut planes = Vec::from_slice(rt.alloc(), &PLANES)?;
-    let mut sides = Vec::new(rt.alloc());
+/// The planes x = 1 / 4096, 2 / 4096 and so on, behind three others.
+fn chained_planes(alloc: Global) -> Result<Vec<Numbers>, AllocError> {
+    let mut planes = Vec::from_slice(alloc, &PLANES)?;
     for k in 1..=4096u16 {
         planes.push([4096, 0, 0, i64::from(k)])?;
+    }
+    Ok(planes)
+}
+
+/// The book of those planes.
+fn chained_book(alloc: Global) -> Result<PlaneBook, AllocError> {
+    let planes = chained_planes(alloc)?;
+    book_of(alloc, planes.as_slice())
+}
+
+/// The tree of what lies in front of each of those planes, the last one looked at first.
+fn chain(alloc: Global, pool: &mut Pool) -> Result<TreeId, AllocError>
+    ensures live { IfOk result (IsLive pool.new) }
+{
+    let mut sides = Vec::new(alloc);
+    for k in 1..=4096u16 {
         sides.push((8 + u32::from(k), true))?;
     }
-    let book = book_of(rt.alloc(), &planes)?;
+    inside(pool, sides.as_slice())
+}
+
+/// Only the last plane, x = 1, has a face, of the number 4104.
+#[test]
+fn walks_a_chain_of_half_spaces(rt: HostRuntime) -> Result<(), AllocError> {
+    let book = chained_book(rt.alloc())?;
     let mut pool = Pool::new(rt.alloc())?;
-    let tree = inside(&mut pool, &sides)?;
-    let faces = all_faces(rt.alloc(), &book, &pool, tree)?;
-    assert!(rt; are(&faces, &[(4104, false)]));
+    let tree = chain(rt.alloc(), &mut pool)?;
+    assert!(rt; has_faces(rt.alloc(), &book, &pool, tree, &[(4104, false)])?);
     Ok(())
 }
 
@@ -154,19 +209,22 @@ fn pieces(alloc: Global, book: &PlaneBook, faces: &[OutFace]) -> Result<Vec<Piec
 
 /// Whether the place is among the corners.
 fn has(corners: &[Corner], place: Place) -> bool {
-    let (x, y, z) = place;
-    corners.iter().any(|c| (c.x, c.y, c.z, c.w) == (x, y, z, 1))
+    for c in corners {
+        if c.x == place.0 && c.y == place.1 && c.z == place.2 && c.w == 1 {
+            return true;
+        }
+    }
+    false
 }
 
 /// Whether the corners are the four of the rectangle between two places.
 fn are_of(corners: &[Corner], low: Place, high: Place) -> bool {
-    for x in [low.0, high.0] {
-        for y in [low.1, high.1] {
-            for z in [low.2, high.2] {
-                if !has(corners, (x, y, z)) {
-                    return false;
-                }
-            }
+    for k in 0..8 {
+        let x = if k & 1 == 0 { low.0 } else { high.0 };
+        let y = if k & 2 == 0 { low.1 } else { high.1 };
+        let z = if k & 4 == 0 { low.2 } else { high.2 };
+        if !has(corners, (x, y, z)) {
+            return false;
         }
     }
     corners.len() == 4
@@ -178,10 +236,20 @@ fn is(piece: &Piece, told: &Told) -> bool {
     piece.plane == plane && piece.front_out == front_out && are_of(&piece.corners, low, high)
 }
 
+/// Whether a piece is as told.
+fn has_piece(pieces: &[Piece], told: &Told) -> bool {
+    for piece in pieces {
+        if is(piece, told) {
+            return true;
+        }
+    }
+    false
+}
+
 /// Whether each piece that is told is found.
 fn have(pieces: &[Piece], told: &[Told]) -> bool {
     for wanted in told {
-        if !pieces.iter().any(|piece| is(piece, wanted)) {
+        if !has_piece(pieces, wanted) {
             return false;
         }
     }
@@ -328,12 +396,25 @@ const BOXES: [(Walls, Change, &[Told], &[Told]); 6] = [
     ),
 ];
 
+/// Whether a box after a change has just these pieces.
+fn has_pieces(
+    alloc: Global,
+    walls: Walls,
+    change: Change,
+    first: &[Told],
+    second: &[Told],
+) -> Result<bool, AllocError> {
+    let pieces = pieces_of(alloc, walls, change)?;
+    Ok(pieces.len() == first.len() + second.len() && have(&pieces, first) && have(&pieces, second))
+}
+
 #[test]
-fn walks_boxes(rt: HostRuntime) -> Result<(), Fail> {
-    for (walls, change, first, second) in BOXES {
-        let pieces = pieces_of(rt.alloc(), walls, change)?;
-        assert_eq!(rt; pieces.len(), first.len() + second.len(), "at {walls:?}");
-        assert!(rt; have(&pieces, first) && have(&pieces, second));
+fn walks_boxes(rt: HostRuntime) -> Result<(), AllocError> {
+    for (walls, change, first, second) in &BOXES {
+        assert!(rt;
+            has_pieces(rt.alloc(), *walls, *change, first, second)?,
+            "at {walls:?}"
+        );
     }
     Ok(())
 }
