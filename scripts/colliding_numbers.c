@@ -1,5 +1,5 @@
-/* Prints instances whose numbers have hashes with the same last bits, so that they all begin at one place of the table of
-   instances:
+/* Prints instances whose numbers have hashes with the same last bits, so that they would all begin at one place of a table that
+   hashes them with a fixed seed:
        colliding_numbers COUNT BITS
    The hash is that of the toolchain's maps with their fixed seed: the number, mixed with the seed, times a constant, with the
    two halves of the product and then the two halves of that joined by exclusive or. */

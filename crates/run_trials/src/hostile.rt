@@ -1,6 +1,6 @@
-use crate::samples::{edited, has, run_with};
-use ix_outside::{MemSource, Sink};
-use std::test::Fail;
+use crate::samples::{edited, has, is_shown, run_over};
+use ix_outside::Sink;
+use std::alloc::{AllocError, Global};
 
 /// A file of a cube.
 pub const CUBE: &str = "ISO-10303-21;
@@ -29,7 +29,7 @@ END-ISO-10303-21;
 
 /// The places of the cube's tokens that can stand unfinished at its end and are then none, each with the last place at which
 /// the file may be cut for this.
-const UNFINISHED: [(usize, usize); 53] = [
+static UNFINISHED: [(usize, usize); 53] = [
     (0, 11),
     (14, 19),
     (40, 41),
@@ -87,36 +87,37 @@ const UNFINISHED: [(usize, usize); 53] = [
 
 /// The place of the fault of the cube's file cut at a place: that of the token that is left unfinished, or the cut.
 fn fault_place(cut: usize) -> usize {
-    for (token, last) in UNFINISHED {
-        if token < cut && cut <= last {
-            return token;
+    for (token, last) in &UNFINISHED {
+        if *token < cut && cut <= *last {
+            return *token;
         }
     }
     cut
 }
 
+/// Whether the file cut at a place is refused there, or not at all where it is whole.
+fn is_cut_at(alloc: Global, cut: usize, is_whole: bool) -> Result<bool, AllocError> {
+    let mut text = Vec::from_slice(alloc, CUBE.as_bytes())?;
+    text.truncate(cut);
+    let left = run_over(alloc, "convert", text, 4000, 200)?;
+    let report = format!(in alloc; "refused Syntax at {}\n", fault_place(cut))?;
+    let has_report = left.rep.held() == report.as_bytes();
+    Ok(
+        left.code == if is_whole { 0 } else { 2 }
+            && is_whole != has_report
+            && is_whole != left.out.held().is_empty(),
+    )
+}
+
 /// Wherever a file is cut, its fault is found at the cut or at the token that it cuts, and nothing is written. Behind the
 /// last mark nothing is left to cut.
 #[test]
-fn cuts_at_each_byte(rt: HostRuntime) -> Result<(), Fail> {
-    let alloc = rt.alloc();
-    let whole = CUBE.as_bytes();
-    for cut in 0..=whole.len() {
-        let mut source = MemSource::new(Vec::from_slice(alloc, &whole[..cut])?);
-        let left = run_with(alloc, &["convert"], &mut source, Vec::new(alloc), 4000, 200)?;
-        let place = fault_place(cut);
-        let report = format!(in alloc; "refused Syntax at {place}\n")?;
-        let is_whole = cut >= whole.len() - 1;
-        let has_report = left.rep.held() == report.as_bytes();
-        assert_eq!(rt;
-            left.status.code(),
-            if is_whole { 0 } else { 2 },
-            "at {cut}"
-        );
-        assert!(rt; is_whole != has_report, "at {cut}");
-        assert!(rt; is_whole != left.out.held().is_empty(), "at {cut}");
+fn cuts_at_each_byte(rt: HostRuntime) {
+    let size = CUBE.len();
+    for cut in 0..=size {
+        let is_whole = cut >= size.saturating_sub(1);
+        assert!(rt; is_shown(is_cut_at(rt.alloc(), cut, is_whole)), "at {cut}");
     }
-    Ok(())
 }
 
 /// A line of the cube's file, what stands in its place, the number of the status, and a text of the page.
@@ -194,19 +195,19 @@ const CHANGES: [Change; 11] = [
     ),
 ];
 
+fn is_named(alloc: Global, change: &Change) -> Result<bool, AllocError> {
+    let (old, new, code, text) = *change;
+    let left = run_over(alloc, "convert", edited(alloc, CUBE, old, new)?, 4000, 200)?;
+    Ok(
+        left.code == code
+            && has(&left.page, text.as_bytes())
+            && (code == 0) == has(left.rep.held(), b" converted 1 "),
+    )
+}
+
 #[test]
-fn names_what_is_malicious(rt: HostRuntime) -> Result<(), Fail> {
-    let alloc = rt.alloc();
-    for (old, new, code, text) in CHANGES {
-        let file = edited(alloc, CUBE, old, new)?;
-        let mut source = MemSource::new(Vec::from_slice(alloc, file.as_bytes())?);
-        let left = run_with(alloc, &["convert"], &mut source, Vec::new(alloc), 4000, 200)?;
-        assert_eq!(rt; left.status.code(), code, "{new}");
-        assert!(rt; has(&left.page, text.as_bytes()), "{new}");
-        assert!(rt;
-            (code == 0) == has(left.rep.held(), b" converted 1 "),
-            "{new}"
-        );
+fn names_what_is_malicious(rt: HostRuntime) {
+    for change in CHANGES.iter() {
+        assert!(rt; is_shown(is_named(rt.alloc(), change)), "{}", change.1);
     }
-    Ok(())
 }
