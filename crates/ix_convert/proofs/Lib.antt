@@ -1,7 +1,7 @@
+pub mod Found
 pub mod OneInput
-pub mod Causes
-pub mod Puts
 pub mod OneLine
+pub mod Puts
 pub mod Named
 pub mod Models
 pub mod SoundPages

@@ -1,4 +1,4 @@
--- The search for a writer of a name, and the task that a format names.
+-- The search for a writer of a name, and the task of the format that names it.
 use Rattle.std.proofs.Common.{◌≡◌, ◌⊎◌, ℕ, zero, suc, ◌+◌, ◌-◌, ◌<◌, ◌≤◌, Bool, true, false, cond, List, [], ◌∷◌, ◌++◌, length, drop, get_or, map, Option, Some, None, IfSome, String, Global, inl, inr, refl, sym, ◌∙◌, ap, subst, add-one, arith}
 use Rattle.std.proofs.Math.Seq.{drop-cons}
 use Rattle.std.proofs.lemmas.List.{drop_all, length-map}
@@ -6,18 +6,17 @@ use Rattle.std.proofs.lemmas.Option.{slice_get-map, slice_get-get_or, slice_get_
 use Rattle.std.specs.Prelude.{slice_get, string_bytes, codes, if◌then◌else◌}
 use Rattle.std.specs.Option.{option_map, option_and_then}
 use Rattle.std.specs.Str.{bytes_eq}
-use Rattle.spec_outside.specs.Ends.{Known}
 use Rattle.spec_geometry.specs.Files.{File}
 use Rattle.world_print.specs.Elements.{Mesh}
 use Rattle.mesh_out.specs.Writers.{Writer, known_writer, first_named}
-use Rattle.ix_words.specs.declared.job.Job.{Job}
-use Rattle.ix_words.specs.declared.job.Job.TheVariants as job
-use Rattle.ix_words.specs.Words.{behind, format_name, job_of}
-use Rattle.spec_run.specs.Tasks.{Format, Obj, TextOf, Task, Convert, Generate, Run, format_of, task_with, task_of, reads_source}
-use Rattle.spec_run.specs.Findings.{Finding, IsConverted, IsFoundBy, IsFoundFor, IsFound}
+use Rattle.ix_words.specs.Words.{behind, format_name}
+use Rattle.spec_run.specs.Changes.{Change}
+use Rattle.spec_run.specs.Tasks.{faulty, converting_to}
+use Rattle.spec_run.specs.Tasks.Converting.{Format, Obj, TextOf, format_of, converting}
 use Rattle.ix_page.specs.Counts.{HasTaken}
 use Rattle.ix_page.specs.declared.tally.Tally.{Tally}
-use Rattle.ix_convert.specs.Answers.{Tells, IsBuilt, IsFirstAt, IsPlaceOf}
+use Rattle.ix_convert.specs.Answers.{Answers}
+use Rattle.ix_convert.specs.Conversions.{IsBuilt, IsFirstAt, IsPlaceOf}
 use Rattle.ix_convert.specs.declared.answer.Answer.{Answer}
 
 -- what is known of writers
@@ -114,16 +113,16 @@ place_unnamed words writers (suc place) positive e = ap (λ o. option_map TextOf
 
 -- The page of a writer.
 
-pub text_built : (name : List ℕ) (taken taken' : List Mesh) (text_for text_for' : List Mesh → List ℕ) (file : File) (numbers text page page' : List ℕ) (tally : Tally)
-    → HasTaken file numbers taken taken' tally → ((list : List Mesh) → text_for' list ≡ text_for list) → text ≡ text_for' taken' → page ≡ [] → page' ≡ page ++ text
-    → IsBuilt (TextOf (known_writer name taken text_for)) file numbers page' tally
-text_built name taken taken' text_for text_for' file numbers text page page' tally h texts is blank grown = record {
+pub text_built : (writer writer' : Writer) (file : File) (numbers text page page' : List ℕ) (tally : Tally) → HasTaken file numbers writer.taken writer'.taken tally
+    → ((list : List Mesh) → writer'.text_for list ≡ writer.text_for list) → text ≡ writer'.text_for writer'.taken → page ≡ [] → page' ≡ page ++ text
+    → IsBuilt (TextOf writer) file numbers page' tally
+text_built writer writer' file numbers text page page' tally h texts is blank grown = record {
   items = h.items;
   outcomes = h.outcomes;
   text = record {
     meshes = h.meshes;
     converted = h.converted;
-    text = grown ∙ ap (λ (l : List ℕ). l ++ text) blank ∙ is ∙ texts taken' ∙ ap text_for h.took;
+    text = grown ∙ ap (λ (l : List ℕ). l ++ text) blank ∙ is ∙ texts writer'.taken ∙ ap writer.text_for h.took;
   };
   counts = h.counts;
 }
@@ -141,65 +140,33 @@ within_list xs i lt = by xs i lt (slice_get_cases xs i).1
     by xs i lt (inl (x, p, e, q)) = (x, e)
     by xs i lt (inr (p, e)) = absurd (too_far (length xs) i lt p)
 
--- what is found for the writer at the place is found for the format that names it
-pub written_for : {X : Type 0} (xs ys : List X) (view : X → Writer) (words : List (List ℕ)) (format at : ℕ) (grid : ℕ) (only : Option ℕ) (src src' : Known) (page : List ℕ) (answer : Answer)
+-- what is answered for the writer at the place is answered for the format that names it
+pub written_for : {X : Type 0} (xs ys : List X) (view : X → Writer) (words : List (List ℕ)) (format at grid : ℕ) (only : Option ℕ) (src : Change) (page : List ℕ) (answer : Answer)
     → ys ≡ xs → IsPlaceOf words (map view ys) format (Some at)
-    → IfSome (slice_get xs at) (λ x. (f : Finding) × Tells answer f × IsConverted grid only (TextOf (view x)) src src' page f)
-    → (f : Finding) × Tells answer f × IsFoundFor (option_map (Convert grid only) (format_of words (map view xs) format)) src src' page f
-written_for {X = X} xs ys view words format at grid only src src' page answer same place h =
+    → IfSome (slice_get xs at) (λ x. Answers (converting grid only (TextOf (view x))) src page answer)
+    → Answers (converting_to grid only (format_of words (map view xs) format)) src page answer
+written_for {X = X} xs ys view words format at grid only src page answer same place h =
     let here : IsPlaceOf words (map view xs) format (Some at) = subst (λ l. IsPlaceOf words (map view l) format (Some at)) same place in
     let x = within_list xs at (subst (λ n. at < n) (length-map xs view) here.0) in
-    let found = told (slice_get xs at) x.0 x.1 h in
     let named : format_of words (map view xs) format ≡ Some (TextOf (view x.0)) =
     here.1 ∙ ap (option_map TextOf) (slice_get-map view xs at ∙ ap (option_map view) x.1) in
-    (found.0, found.1, subst (λ (o : Option Format). IsFoundFor (option_map (Convert grid only) o) src src' page found.0) (sym named) found.2)
+    subst (λ (o : Option Format). Answers (converting_to grid only o) src page answer) (sym named) (told (slice_get xs at) x.0 x.1 h)
   where
-    told : (o : Option X) (x : X) → o ≡ Some x → IfSome o (λ x. (f : Finding) × Tells answer f × IsConverted grid only (TextOf (view x)) src src' page f)
-        → (f : Finding) × Tells answer f × IsConverted grid only (TextOf (view x)) src src' page f
-    told o x e h = subst (λ o. IfSome o (λ x. (f : Finding) × Tells answer f × IsConverted grid only (TextOf (view x)) src src' page f)) e h
+    told : (o : Option X) (x : X) → o ≡ Some x → IfSome o (λ x. Answers (converting grid only (TextOf (view x))) src page answer)
+        → Answers (converting grid only (TextOf (view x))) src page answer
+    told o x e h = subst (λ o. IfSome o (λ x. Answers (converting grid only (TextOf (view x))) src page answer)) e h
 
-some_format : Format → Option Format
-some_format f = Some f
+-- a format without a writer is a fault of the words
+pub unnamed_for : {X : Type 0} (xs ys : List X) (view : X → Writer) (words : List (List ℕ)) (format grid : ℕ) (only : Option ℕ) (src : Change) (page blank : List ℕ) (answer : Answer)
+    → ys ≡ xs → IsPlaceOf words (map view ys) format None → page ≡ blank → Answers faulty src blank answer
+    → Answers (converting_to grid only (format_of words (map view xs) format)) src page answer
+unnamed_for xs ys view words format grid only src page blank answer same place is_blank h =
+    subst (λ (o : Option Format). Answers (converting_to grid only o) src page answer)
+    (sym (subst (λ l. IsPlaceOf words (map view l) format None) same place))
+    (subst (λ (p : List ℕ). Answers faulty src p answer) (sym is_blank) h)
 
-pub named_not_none : {X : Type 0} (xs ys : List X) (view : X → Writer) (words : List (List ℕ)) (format at : ℕ)
-    → ys ≡ xs → IsPlaceOf words (map view ys) format (Some at) → format_of words (map view xs) format ≡ None → ⊥
-named_not_none xs ys view words format at same place none =
-    let here : IsPlaceOf words (map view xs) format (Some at) = subst (λ l. IsPlaceOf words (map view l) format (Some at)) same place in
-    let x = within_list xs at (subst (λ n. at < n) (length-map xs view) here.0) in
-    differ (view x.0) (sym (here.1 ∙ ap (option_map TextOf) (slice_get-map view xs at ∙ ap (option_map view) x.1)) ∙ none)
-  where
-    differ : (w : Writer) → Some (TextOf w) ≡ None → ⊥
-    differ w e = cc
-
--- Tasks.
-
--- what is found for the job of converting is found under its words
-pub convert_under : (words : List (List ℕ)) (writers : List Writer) (grid : ℕ) (only : Option ℕ) (format : ℕ) (src src' : Known) (page : List ℕ) (answer : Answer)
-    → job_of words ≡ Some (job.Convert grid only format)
-    → (f : Finding) × Tells answer f × IsFoundFor (option_map (Convert grid only) (format_of words writers format)) src src' page f
-    → (f : Finding) × Tells answer f × IsFound words writers src src' page f
-convert_under words writers grid only format src src' page answer named (f, tells, h) =
-    (f, tells, subst (λ (o : Option Job). IsFoundFor (option_and_then (task_with words writers) o) src src' page f) (sym named) h)
-
--- and for the job of generating
-pub generate_under : (words : List (List ℕ)) (writers : List Writer) (n : ℕ) (run : Bool) (src src' : Known) (page : List ℕ) (answer : Answer)
-    → job_of words ≡ Some (job.Gen n run) → src' ≡ src
-    → (f : Finding) × Tells answer f × IsFoundBy (if run then Run n else Generate n) src src page f
-    → (f : Finding) × Tells answer f × IsFound words writers src src' page f
-generate_under words writers n run src src' page answer named same (f, tells, h) = (
-  f,
-  tells,
-  subst (λ (s : Known). IsFound words writers src s page f) (sym same)
-      (subst (λ (o : Option Job). IsFoundFor (option_and_then (task_with words writers) o) src src page f) (sym named) h),
-)
-
-unread : (grid : ℕ) (only : Option ℕ) (o : Option Format) → reads_source (option_map (Convert grid only) o) ≡ false → o ≡ None
-unread grid only None e = refl
-unread grid only (Some format) e = cc
-
--- a format without a writer reads nothing
-pub unread_format : (words : List (List ℕ)) (writers : List Writer) (grid : ℕ) (only : Option ℕ) (format : ℕ) → job_of words ≡ Some (job.Convert grid only format)
-    → reads_source (task_of words writers) ≡ false → format_of words writers format ≡ None
-unread_format words writers grid only format named e =
-    unread grid only (format_of words writers format)
-    (subst (λ (o : Option Job). reads_source (option_and_then (task_with words writers) o) ≡ false) named e)
+-- OBJ text
+pub obj_for : (words : List (List ℕ)) (writers : List Writer) (format grid : ℕ) (only : Option ℕ) (src : Change) (page : List ℕ) (answer : Answer) → format ≡ 0
+    → Answers (converting grid only Obj) src page answer → Answers (converting_to grid only (format_of words writers format)) src page answer
+obj_for words writers format grid only src page answer e h =
+    subst (λ n. Answers (converting_to grid only (format_of words writers n)) src page answer) (sym e) h

@@ -1,5 +1,5 @@
 -- An input is one thing: a file that is converted, by its one DATA section, or one that is refused for one reason.
-use Rattle.std.proofs.Common.{◌≡◌, ℕ, ℤ, ◌<◌, ◌≤◌, List, length, Result, Ok, Err, refl, sym, ◌∙◌, ap, arith}
+use Rattle.std.proofs.Common.{◌≡◌, ℕ, ℤ, ◌<◌, ◌≤◌, List, length, Option, Result, Ok, Err, refl, sym, ◌∙◌, ap, arith}
 use Rattle.spec_step.specs.declared.fault.StepFault.{StepFault}
 use Rattle.spec_step.specs.declared.fault.StepFault.TheVariants as step
 use Rattle.spec_table.specs.Sections.{DataSection}
@@ -7,8 +7,10 @@ use Rattle.spec_geometry.specs.Units.{length_unit}
 use Rattle.spec_refusal.specs.declared.UnitFault.{UnitFault}
 use Rattle.spec_refusal.specs.declared.UnitFault.TheVariants as fault
 use Rattle.spec_run.specs.declared.FileFault.{FileFault}
-use Rattle.spec_run.specs.declared.FileFault.TheVariants.{TooLarge, Syntax, Nested, Schema, DuplicateNumber, NoProject, NoLengthUnit, Line}
+use Rattle.spec_run.specs.declared.FileFault.TheVariants.{TooLarge, Syntax, Nested, Schema, DuplicateNumber, NoProject, NoLengthUnit}
 use Rattle.spec_run.specs.Inputs.{most_bytes, IsFileWith, IsInput, IsNoFile, LacksUnit, IsFaultOf}
+use Rattle.spec_run.specs.Tasks.Converting.{Format, converting}
+use Rattle.ix_convert.proofs.Found.{HasOneAnswer}
 use Rattle.step_text.proofs.OneAnswer.{one_file, one_cause, no_cause}
 
 same_section : (s t : DataSection) → s.text ≡ t.text → s.instances ≡ t.instances → s ≡ t
@@ -46,7 +48,6 @@ kind_of given Schema h = no_file step.Schema h
 kind_of given (DuplicateNumber n first second) h = no_file (step.DuplicateNumber n first second) h
 kind_of given NoProject h = no_unit fault.NoProject h
 kind_of given NoLengthUnit h = no_unit fault.NoLengthUnit h
-kind_of given (Line n) h = absurd h
 
 too_long : (n : ℕ) → n ≤ most_bytes → most_bytes < n → ⊥
 too_long n p q = omega arith
@@ -93,3 +94,11 @@ no_kind given section unit _ h (no_unit why k) =
 -- and for none where it is converted
 pub no_fault : (given : List ℕ) (section : DataSection) (unit : ℤ) (why : FileFault) → IsInput given section unit → IsFaultOf given why → ⊥
 no_fault given section unit why h k = no_kind given section unit why h (kind_of given why k)
+
+-- what converts a file has one answer
+pub converting_one : (grid : ℕ) (only : Option ℕ) (format : Format) → HasOneAnswer (converting grid only format)
+converting_one grid only format = record {
+  answered = λ given page items why h fault. no_fault given h.section h.unit why h.input fault;
+  taken = λ given why input fault. no_fault given input.0 input.1 why input.2 fault;
+  one = one_fault;
+}

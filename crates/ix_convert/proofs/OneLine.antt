@@ -1,8 +1,13 @@
 -- A text has one first line that is not allowed.
-use Rattle.std.proofs.Common.{◌≡◌, ◌≢◌, ◌⊎◌, inl, inr, ℕ, ◌+◌, ◌<◌, List, [], ◌∷◌, ◌++◌, length, All, refl, sym, ◌∙◌, ap, subst, arith}
+use Rattle.std.proofs.Common.{◌≡◌, ◌≢◌, ◌⊎◌, inl, inr, ℕ, ◌+◌, ◌<◌, ◌≤◌, List, [], ◌∷◌, ◌++◌, length, All, refl, sym, ◌∙◌, ap, subst, arith}
 use Rattle.std.proofs.lemmas.List.{append_assoc}
 use Rattle.std.proofs.lemmas.List.Elements.{All-head, All-tail}
 use Rattle.spec_page.specs.Items.{Item}
+use Rattle.spec_run.specs.declared.PageFault.{PageFault}
+use Rattle.spec_run.specs.declared.PageFault.TheVariants.{TooLarge, Line}
+use Rattle.spec_run.specs.Inputs.{most_bytes}
+use Rattle.spec_run.specs.Tasks.Checking.{IsPageInput, IsPageFaultOf, checking}
+use Rattle.ix_convert.proofs.Found.{HasOneAnswer}
 use Rattle.spec_check.specs.Grammar.{IsPageText, IsCutPage, BeginsPage, IsLine, lines_text, IsBadLine}
 
 head_of : {X : Type 0} (x y : X) (xs ys : List X) → x ∷ xs ≡ y ∷ ys → x ≡ y
@@ -99,7 +104,30 @@ earlier text m n h k less_lines =
 ordered : (a b : ℕ) → (a < b → ⊥) → (b < a → ⊥) → a ≡ b
 ordered a b h k = omega arith
 
-pub one_bad_line : (text : List ℕ) (m n : ℕ) → IsBadLine text m → IsBadLine text n → m ≡ n
+one_bad_line : (text : List ℕ) (m n : ℕ) → IsBadLine text m → IsBadLine text n → m ≡ n
 one_bad_line text m n h k =
     let same : length h.before ≡ length k.before = ordered (length h.before) (length k.before) (earlier text m n h k) (earlier text n m k h) in
     h.place ∙ ap (λ (l : ℕ). l + 1) same ∙ sym k.place
+
+-- A text is a page, or refused for one reason.
+
+too_long : (n : ℕ) → n ≤ most_bytes → most_bytes < n → ⊥
+too_long n p q = omega arith
+
+no_page_fault : (given : List ℕ) (grid : ℕ) (items : List Item) (why : PageFault) → IsPageInput given grid items → IsPageFaultOf given why → ⊥
+no_page_fault given grid items TooLarge input h = too_long (length given) input.small h
+no_page_fault given grid items (Line n) input h = h.line.no_page grid items input.page
+
+one_page_fault : (given : List ℕ) (why other : PageFault) → IsPageFaultOf given why → IsPageFaultOf given other → why ≡ other
+one_page_fault given TooLarge TooLarge h k = refl
+one_page_fault given TooLarge (Line n) h k = absurd (too_long (length given) k.small h)
+one_page_fault given (Line m) TooLarge h k = absurd (too_long (length given) h.small k)
+one_page_fault given (Line m) (Line n) h k = ap Line (one_bad_line given m n h.line k.line)
+
+-- what checks a page has one answer
+pub checking_one : HasOneAnswer checking
+checking_one = record {
+  answered = λ given page verdict why h fault. no_page_fault given h.grid h.items why h.input fault;
+  taken = λ given why input fault. no_page_fault given input.0 input.1 why input.2 fault;
+  one = one_page_fault;
+}

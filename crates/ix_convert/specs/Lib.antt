@@ -1,5 +1,5 @@
-pub mod Statuses
 pub mod Answers
+pub mod Conversions
 pub mod Deliveries
 pub mod Runs
 pub mod Starts

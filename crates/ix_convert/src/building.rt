@@ -1,10 +1,10 @@
 ghost use Rattle.std.specs.Prelude.{◌≡◌, [], IfOk};
+ghost use Rattle.std.specs.Option.{option_map};
 ghost use Rattle.spec_entity.specs.Elements.{elements};
 ghost use Rattle.spec_outcome.specs.Outcomes.{wanted_of};
-ghost use Rattle.mesh_out.specs.Writers.{known_writer};
-ghost use Rattle.spec_run.specs.Tasks.{TextOf};
+ghost use Rattle.spec_run.specs.Tasks.Converting.{TextOf};
 ghost use Rattle.ifc_numbers.specs.Measures.{file_of};
-ghost use Rattle.ix_convert.specs.Answers.{IsBuilt, format_by};
+ghost use Rattle.ix_convert.specs.Conversions.{IsBuilt, format_by};
 
 use ifc_numbers::GeomIn;
 use ix_page::{Tally, take_meshes, write_page};
@@ -31,7 +31,7 @@ fn take_text(
     page: &mut Vec<u8>,
 ) -> Result<Tally, AllocError>
     requires { page.old.items ≡ [] }
-    ensures { IfOk result (IsBuilt (TextOf (known_writer (called writer.old) (taken writer.old) (text_for writer.old))) (file_of table.now g.now) (wanted_of only (elements table.now)) page.new.items) }
+    ensures { IfOk result (IsBuilt (TextOf (view writer.old)) (file_of table.now g.now) (wanted_of only (elements table.now)) page.new.items) }
 {
     let tally = take_meshes(alloc, table, g, only, writer)?;
     page.extend_from_slice(writer.text())?;
@@ -48,7 +48,7 @@ fn build_text(
     page: &mut Vec<u8>,
 ) -> Result<Tally, AllocError>
     requires { page.old.items ≡ [] }
-    ensures { IfOk result (IsBuilt (TextOf (known_writer (called writer) (taken writer) (text_for writer))) (file_of table.now g.now) (wanted_of only (elements table.now)) page.new.items) }
+    ensures { IfOk result (IsBuilt (TextOf (view writer)) (file_of table.now g.now) (wanted_of only (elements table.now)) page.new.items) }
 {
     let mut writer = writer;
     take_text(alloc, table, g, only, &mut *writer, page)
@@ -64,7 +64,7 @@ pub(crate) fn build_page(
     page: &mut Vec<u8>,
 ) -> Result<Tally, AllocError>
     requires { page.old.items ≡ [] }
-    ensures { IfOk result (IsBuilt (format_by form (λ w. known_writer (called w) (taken w) (text_for w))) (file_of table.now g.now) (wanted_of only (elements table.now)) page.new.items) }
+    ensures { IfOk result (IsBuilt (format_by (option_map view form)) (file_of table.now g.now) (wanted_of only (elements table.now)) page.new.items) }
 {
     match form {
         None => write_page(alloc, table, g, only, page),

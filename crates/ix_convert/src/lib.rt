@@ -3,19 +3,15 @@
 
 mod answer;
 mod building;
-mod checking;
 mod choosing;
-mod converting;
 mod deliver;
-mod generating;
+mod jobs;
 mod open;
 mod report;
 mod run;
 mod starting;
-mod status;
 mod words;
 
-pub use ix_words::Job;
+pub use ix_words::{Job, Status};
 pub use run::convert_run;
 pub use starting::start;
-pub use status::Status;

@@ -1,7 +1,7 @@
 ghost use Rattle.std.specs.Prelude.{◌≡◌, ℕ, ◌≤◌, List, length, IfOk, IfErr};
 ghost use Rattle.step_text.specs.Answers.{IsCauseOrWant};
 ghost use Rattle.spec_run.specs.Inputs.{most_bytes, IsFileWith, IsInput, LacksUnit};
-ghost use Rattle.ix_convert.specs.Answers.{HasReason};
+ghost use Rattle.ix_convert.specs.Conversions.{HasReason};
 
 use ifc_numbers::length_unit;
 use ix_place::LengthUnit;

@@ -1,17 +1,16 @@
-ghost use Rattle.std.specs.Prelude.{◌≡◌, [], map, true, false, IfSome, string_bytes};
+ghost use Rattle.std.specs.Prelude.{◌≡◌, [], map, true, false};
 ghost use Rattle.std.specs.Io.KnownBytes.{Appends};
-ghost use Rattle.spec_outside.specs.Ends.{known};
-ghost use Rattle.mesh_out.specs.Writers.{known_writer};
-ghost use Rattle.spec_run.specs.Tasks.{task_of, reads_source, puts_page};
+ghost use Rattle.ix_words.specs.Statuses.{is_done};
+ghost use Rattle.spec_run.specs.Changes.{change};
 ghost use Rattle.spec_run.specs.Findings.{IsMadeBy, IsSoundBy};
-ghost use Rattle.ix_convert.specs.Statuses.{is_done};
+ghost use Rattle.spec_run.specs.Tasks.{asked};
 ghost use Rattle.ix_convert.specs.Deliveries.{page_if};
 ghost use Rattle.ix_convert.specs.Runs.{IsRun};
 
-use crate::answer::answer_words;
 use crate::deliver::deliver;
-use crate::status::Status;
+use crate::jobs::answer_words;
 use ix_outside::{Sink, Source};
+use ix_words::Status;
 use mesh_out::MeshWriter;
 use std::alloc::Global;
 
@@ -47,26 +46,23 @@ pub fn convert_run<S: Source, O: Sink, R: Sink>(
     requires { page.old.items ≡ [] }
 
     // What is found, why, and how it is written.
-    ensures run { IsRun (map string_bytes words.now) (map (λ w. known_writer (called w) (taken w) (text_for w)) writers.items)
-        (known (S.left src.old) (S.faults src.old)) (known (S.left src.new) (S.faults src.new))
-        page.new.items
-        (known (O.held out.old) (O.faults out.old)) (known (O.held out.new) (O.faults out.new)) (out.new ≡ out.old)
-        (known (R.held rep.old) (R.faults rep.old)) (known (R.held rep.new) (R.faults rep.new)) (rep.new ≡ rep.old)
-        result }
+    ensures run { IsRun (asked words.now (map view writers.items)) page.new.items result
+        (change S.left S.faults src.old src.new) (change O.held O.faults out.old out.new) (change R.held R.faults rep.old rep.new) }
 
     // The page is, under `convert`, that of one item for each wanted element of the file, with all that is promised of it, in
     // OBJ text or as the text of the writer; none under `check`; under `gen` the generated file, or with `--run` the page of it.
-    ensures headline { is_done result ≡ true → IfSome (task_of (map string_bytes words.now) (map (λ w. known_writer (called w) (taken w) (text_for w)) writers.items)) (λ task. IsMadeBy task (S.left src.old) page.new.items) }
+    ensures headline { is_done result ≡ true → IsMadeBy (asked words.now (map view writers.items)) (S.left src.old) page.new.items }
 
     // A page in OBJ text of a file keeps the limits of pages, and `check` finds it sound.
-    ensures sound { is_done result ≡ true → IfSome (task_of (map string_bytes words.now) (map (λ w. known_writer (called w) (taken w) (text_for w)) writers.items)) (λ task. IsSoundBy task (S.left src.old) page.new.items) }
+    ensures sound { is_done result ≡ true → IsSoundBy (asked words.now (map view writers.items)) (S.left src.old) page.new.items }
 
     // It is put whole, but under `check` and `gen --run`, which put nothing.
-    ensures out_whole { is_done result ≡ true → Appends (O.held out.old) (O.held out.new) (page_if (puts_page (task_of (map string_bytes words.now) (map (λ w. known_writer (called w) (taken w) (text_for w)) writers.items))) page.new.items) }
-    ensures out_untouched { puts_page (task_of (map string_bytes words.now) (map (λ w. known_writer (called w) (taken w) (text_for w)) writers.items)) ≡ false → out.new ≡ out.old }
+    ensures out_whole { is_done result ≡ true → Appends (O.held out.old) (O.held out.new)
+        (page_if (asked words.now (map view writers.items)).puts page.new.items) }
+    ensures out_untouched { (asked words.now (map view writers.items)).puts ≡ false → out.new ≡ out.old }
 
     // Faulty words and `gen` leave the source as it was, and a refusal leaves the output as it was.
-    ensures untouched { reads_source (task_of (map string_bytes words.now) (map (λ w. known_writer (called w) (taken w) (text_for w)) writers.items)) ≡ false → src.new ≡ src.old }
+    ensures untouched { (asked words.now (map view writers.items)).reads ≡ false → src.new ≡ src.old }
     ensures out_kept { is_done result ≡ false → (result ≡ Status.WriteFault → ⊥) → out.new ≡ out.old }
 {
     let answer = answer_words(alloc, words, writers, src, page);

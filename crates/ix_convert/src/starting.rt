@@ -1,15 +1,15 @@
-ghost use Rattle.std.specs.Prelude.{◌≡◌, ℕ, List, IfOk, OnErr, map, string_bytes};
+ghost use Rattle.std.specs.Prelude.{◌≡◌, ℕ, List, IfOk, OnErr, map};
 ghost use Rattle.std.specs.Vec.Iter.{into_iter_items};
 ghost use Rattle.std.specs.Process.{exit_status};
-ghost use Rattle.spec_outside.specs.Ends.{known};
-ghost use Rattle.mesh_out.specs.Writers.{known_writer};
+ghost use Rattle.spec_run.specs.Changes.{change};
+ghost use Rattle.spec_run.specs.Tasks.{asked};
 ghost use Rattle.ix_convert.specs.Runs.{IsRun};
 ghost use Rattle.ix_convert.specs.Starts.{words_in, own_writers, IsStarted};
 
 use crate::run::convert_run;
-use crate::status::Status;
 use crate::words::words_of;
 use ix_outside::{Sink, Source};
+use ix_words::Status;
 use mesh_out::{MeshWriter, OffWriter};
 use std::alloc::{AllocError, Global};
 use std::env::Args;
@@ -25,13 +25,9 @@ fn run_with<S: Source, O: Sink, R: Sink>(
     out: &mut O,
     rep: &mut R,
 ) -> Status
-    requires { map (λ w. known_writer (called w) (taken w) (text_for w)) writers.items ≡ own_writers }
-    ensures { (page : List ℕ) × IsRun (map string_bytes words.now) own_writers
-        (known (S.left src.old) (S.faults src.old)) (known (S.left src.new) (S.faults src.new))
-        page
-        (known (O.held out.old) (O.faults out.old)) (known (O.held out.new) (O.faults out.new)) (out.new ≡ out.old)
-        (known (R.held rep.old) (R.faults rep.old)) (known (R.held rep.new) (R.faults rep.new)) (rep.new ≡ rep.old)
-        result }
+    requires { map view writers.items ≡ own_writers }
+    ensures { (page : List ℕ) × IsRun (asked words.now own_writers) page result
+        (change S.left S.faults src.old src.new) (change O.held O.faults out.old out.new) (change R.held R.faults rep.old rep.new) }
 {
     let mut page = Vec::new(alloc);
     convert_run(alloc, words, src, out, rep, writers, &mut page)
@@ -45,12 +41,8 @@ fn run<S: Source, O: Sink, R: Sink>(
     out: &mut O,
     rep: &mut R,
 ) -> Result<Status, AllocError>
-    ensures run { IfOk result (λ status. (page : List ℕ) × IsRun (map string_bytes words.now) own_writers
-        (known (S.left src.old) (S.faults src.old)) (known (S.left src.new) (S.faults src.new))
-        page
-        (known (O.held out.old) (O.faults out.old)) (known (O.held out.new) (O.faults out.new)) (out.new ≡ out.old)
-        (known (R.held rep.old) (R.faults rep.old)) (known (R.held rep.new) (R.faults rep.new)) (rep.new ≡ rep.old)
-        status) }
+    ensures run { IfOk result (λ status. (page : List ℕ) × IsRun (asked words.now own_writers) page status
+        (change S.left S.faults src.old src.new) (change O.held O.faults out.old out.new) (change R.held R.faults rep.old rep.new)) }
     ensures unread { OnErr result (src.new ≡ src.old) }
     ensures unput { OnErr result (out.new ≡ out.old) }
     ensures unreported { OnErr result (rep.new ≡ rep.old) }
@@ -71,11 +63,8 @@ pub fn start<S: Source, O: Sink, R: Sink>(
     out: &mut O,
     rep: &mut R,
 ) -> ExitCode
-    ensures { IsStarted (words_in (λ a. map string_bytes (into_iter_items a)) args)
-        (known (S.left src.old) (S.faults src.old)) (known (S.left src.new) (S.faults src.new)) (src.new ≡ src.old)
-        (known (O.held out.old) (O.faults out.old)) (known (O.held out.new) (O.faults out.new)) (out.new ≡ out.old)
-        (known (R.held rep.old) (R.faults rep.old)) (known (R.held rep.new) (R.faults rep.new)) (rep.new ≡ rep.old)
-        (exit_status result) }
+    ensures { IsStarted (words_in into_iter_items args) (change S.left S.faults src.old src.new)
+        (change O.held O.faults out.old out.new) (change R.held R.faults rep.old rep.new) (exit_status result) }
 {
     let words = match words_of(alloc, args) {
         Ok(words) => words,

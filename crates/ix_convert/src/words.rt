@@ -1,4 +1,4 @@
-ghost use Rattle.std.specs.Prelude.{◌≡◌, IfOk, map, string_bytes, drop};
+ghost use Rattle.std.specs.Prelude.{◌≡◌, IfOk, drop};
 ghost use Rattle.std.specs.Vec.Iter.{into_iter_items};
 ghost use Rattle.ix_convert.specs.Starts.{words_in};
 
@@ -19,7 +19,7 @@ fn collected(alloc: Global, args: Args) -> Result<Vec<String>, AllocError>
 
 /// The arguments without the first, which is the program's name. The error is want of memory.
 fn words_behind_name(alloc: Global, args: Args) -> Result<Vec<String>, AllocError>
-    ensures { IfOk result (λ words. map string_bytes words.items ≡ drop 1 (map string_bytes (into_iter_items args))) }
+    ensures { IfOk result (λ words. words.items ≡ drop 1 (into_iter_items args)) }
 {
     let mut args = args;
     drop(args.next());
@@ -28,7 +28,7 @@ fn words_behind_name(alloc: Global, args: Args) -> Result<Vec<String>, AllocErro
 
 /// The words of the command line, without the program's name: none where an argument is no text. The error is want of memory.
 pub(crate) fn words_of(alloc: Global, args: io::Result<Args>) -> Result<Vec<String>, AllocError>
-    ensures { IfOk result (λ words. map string_bytes words.items ≡ words_in (λ a. map string_bytes (into_iter_items a)) args) }
+    ensures { IfOk result (λ words. words.items ≡ words_in into_iter_items args) }
 {
     match args {
         Ok(args) => words_behind_name(alloc, args),

@@ -82,8 +82,8 @@ pub fn made_element(
 
 /// Gives a writer the mesh of an element, where it was converted.
 pub fn take_mesh(writer: &mut dyn MeshWriter, made: &Made) -> Result<(), AllocError>
-    ensures taken { OnOk result (taken writer.new ≡ taken writer.old ++ meshes_of made.now) }
-    ensures texts { (list : List Mesh) → text_for writer.new list ≡ text_for writer.old list }
+    ensures taken { OnOk result ((view writer.new).taken ≡ (view writer.old).taken ++ meshes_of made.now) }
+    ensures texts { (list : List Mesh) → (view writer.new).text_for list ≡ (view writer.old).text_for list }
 {
     match made {
         Made::Mesh(mesh) => writer.take(mesh),

@@ -72,8 +72,8 @@ fn take_element(
     requires element { IsElement table.now number }
     requires openings { IsIndexOf openings.now table.now }
     requires room { tally.old.elements < 2 ^ 60 }
-    ensures taken { OnOk result (TakesElement (file_of table.now g.now) number (taken writer.old) (taken writer.new) tally.old tally.new) }
-    ensures texts { (list : List Mesh) → text_for writer.new list ≡ text_for writer.old list }
+    ensures taken { OnOk result (TakesElement (file_of table.now g.now) number (view writer.old).taken (view writer.new).taken tally.old tally.new) }
+    ensures texts { (list : List Mesh) → (view writer.new).text_for list ≡ (view writer.old).text_for list }
 {
     let made = made_element(alloc, table, g, openings, number)?;
     take_mesh(writer, &made)?;
@@ -91,8 +91,8 @@ fn take_elements(
 ) -> Result<Tally, AllocError>
     requires elements { All (IsElement table.now) numbers.now }
     requires openings { IsIndexOf openings.now table.now }
-    ensures taken { IfOk result (HasTaken (file_of table.now g.now) numbers.now (taken writer.old) (taken writer.new)) }
-    ensures texts { (list : List Mesh) → text_for writer.new list ≡ text_for writer.old list }
+    ensures taken { IfOk result (HasTaken (file_of table.now g.now) numbers.now (view writer.old).taken (view writer.new).taken) }
+    ensures texts { (list : List Mesh) → (view writer.new).text_for list ≡ (view writer.old).text_for list }
 {
     let mut tally = Tally::new(alloc);
     for number in numbers {
@@ -166,8 +166,8 @@ pub fn take_meshes(
     only: Option<u64>,
     writer: &mut dyn MeshWriter,
 ) -> Result<Tally, AllocError>
-    ensures taken { IfOk result (HasTaken (file_of table.now g.now) (wanted_of only (elements table.now)) (taken writer.old) (taken writer.new)) }
-    ensures texts { (list : List Mesh) → text_for writer.new list ≡ text_for writer.old list }
+    ensures taken { IfOk result (HasTaken (file_of table.now g.now) (wanted_of only (elements table.now)) (view writer.old).taken (view writer.new).taken) }
+    ensures texts { (list : List Mesh) → (view writer.new).text_for list ≡ (view writer.old).text_for list }
 {
     let numbers = wanted(alloc, table, only)?;
     let openings = Openings::of(alloc, table)?;

@@ -1,13 +1,10 @@
--- The words of a line, one by one, and lines that stand for no job.
+-- The words of a line, one by one, and more than two behind `gen`.
 use Rattle.std.proofs.Common.{◌≡◌, ℕ, suc, ◌+◌, ◌<◌, ◌≤◌, Bool, true, false, List, [], ◌∷◌, length, drop, get_or, map, Option, Some, None, String, Global, refl, sym, ap, ◌∙◌, add-one, arith}
 use Rattle.std.proofs.Math.Seq.{drop-cons}
-use Rattle.std.proofs.lemmas.Slice.Eq.{bytes_eq-Decides}
-use Rattle.std.specs.Prelude.{codes, string_bytes, if◌then◌else◌}
+use Rattle.std.specs.Prelude.{string_bytes}
 use Rattle.std.specs.Option.{option_and_then}
-use Rattle.std.specs.Str.{bytes_eq}
 use Rattle.ix_words.specs.declared.options.Options.{Options}
-use Rattle.ix_words.specs.declared.job.Job.{Job}
-use Rattle.ix_words.specs.Words.{with_word, with_words, convert_of, check_of, gen_of, job_of}
+use Rattle.ix_words.specs.Words.{with_word, with_words, gen_of}
 
 abbrev bytes : List (String Global) → List (List ℕ)
 bytes words = map (string_bytes {Z = Global}) words
@@ -44,22 +41,3 @@ too_many (a ∷ b ∷ []) h = absurd (two_less h)
     two_less : 3 ≤ 2 → ⊥
     two_less h = omega arith
 too_many (a ∷ b ∷ c ∷ words) h = refl
-
-refuted : (b : Bool) → (b ≡ true → ⊥) → b ≡ false
-refuted true h = absurd (h refl)
-refuted false h = refl
-
-differ : (word other : List ℕ) → (word ≡ other → ⊥) → bytes_eq word other ≡ false
-differ word other h = refuted (bytes_eq word other) (λ e. h ((bytes_eq-Decides word other).0 e))
-
-third : (a b c : Bool) (o p q : Option Job) → a ≡ false → b ≡ false → c ≡ false → None ≡ (if a then o else (if b then p else (if c then q else None)))
-third true b c o p q e f g = cc
-third false true c o p q e f g = cc
-third false false true o p q e f g = cc
-third false false false o p q e f g = refl
-
--- a first word that names no job
-pub no_job : (word : List ℕ) (words : List (List ℕ)) → (word ≡ codes "convert" → ⊥) → (word ≡ codes "check" → ⊥) → (word ≡ codes "gen" → ⊥) → None ≡ job_of (word ∷ words)
-no_job word words h k l =
-    third (bytes_eq word (codes "convert")) (bytes_eq word (codes "check")) (bytes_eq word (codes "gen")) (convert_of words) (check_of words) (gen_of words)
-    (differ word (codes "convert") h) (differ word (codes "check") k) (differ word (codes "gen") l)

@@ -1,13 +1,10 @@
--- The numbers of a job are in their ranges.
-use Rattle.std.proofs.Common.{◌≡◌, ℕ, ◌+◌, Bool, true, false, List, [], ◌∷◌, Option, Some, None, IfSome, refl, arith}
+-- The grid of the options of `convert` is in its range.
+use Rattle.std.proofs.Common.{◌≡◌, ℕ, ◌+◌, Bool, true, false, List, [], ◌∷◌, Option, Some, None, IfSome, refl, subst, arith}
 use Rattle.std.specs.Prelude.{nat_le, codes, if◌then◌else◌}
 use Rattle.std.specs.Option.{option_map, option_and_then, unwrap_or}
-use Rattle.std.specs.Str.{bytes_eq}
 use Rattle.std.proofs.lemmas.Bool.{leb-true}
 use Rattle.ix_words.specs.declared.options.Options.{Options}
-use Rattle.ix_words.specs.declared.job.Job.{Job}
-use Rattle.ix_words.specs.declared.job.Job.TheVariants.{Gen}
-use Rattle.ix_words.specs.Words.{number_of, is_grid, grid_of, behind, no_options, once, format_at, with_further, with_option, with_word, with_words, convert_with, convert_of, check_of, is_count, count_of, count_in, gen_with, gen_of, job_of, IsGrid, IsCount, IsInRange}
+use Rattle.ix_words.specs.Words.{number_of, is_grid, grid_of, behind, no_options, once, format_at, with_further, with_option, with_word, with_words, IsGrid}
 use Rattle.ix_words.proofs.Numerals.{and_left, and_right}
 
 -- the grid is in its range, if there is one
@@ -63,57 +60,5 @@ told : (o : Option ℕ) → IfSome o IsGrid → IsGrid (unwrap_or o 1000)
 told None h = record { least = omega arith; most = omega arith }
 told (Some grid) h = h
 
-job_fine : (o : Option Options) → IfSome o IsFine → IfSome (option_map convert_with o) IsInRange
-job_fine None h = tt
-job_fine (Some options) h = told options.grid h
-
-convert_in_range : (words : List (List ℕ)) → IfSome (convert_of words) IsInRange
-convert_in_range words = job_fine (with_words no_options 2 words) (words_set words 2 no_options tt)
-
-check_in_range : (words : List (List ℕ)) → IfSome (check_of words) IsInRange
-check_in_range [] = tt
-check_in_range (word ∷ words) = tt
-
-counted : (n : ℕ) (b : Bool) → is_count n ≡ b → IfSome (if b then Some n else None) IsCount
-counted n true e = record {
-  least = leb-true 1 n (and_left (nat_le 1 n) (nat_le n 150) e);
-  most = leb-true n 150 (and_right (nat_le 1 n) (nat_le n 150) e);
-}
-counted n false e = tt
-
-count_read : (o : Option ℕ) → IfSome (option_and_then (λ n. if is_count n then Some n else None) o) IsCount
-count_read None = tt
-count_read (Some n) = counted n (is_count n) refl
-
-count_in_range : (run : Bool) (o : Option ℕ) → IfSome o IsCount → IfSome (option_map (λ n. Gen n run) o) IsInRange
-count_in_range run None h = tt
-count_in_range run (Some n) h = h
-
-counted_behind : (o : Option (List ℕ)) → IfSome (option_and_then count_of o) IsCount
-counted_behind None = tt
-counted_behind (Some text) = count_read (number_of text)
-
-with_in_range : (run : Bool) (word : List ℕ) → IfSome (gen_with run word) IsInRange
-with_in_range run word = count_in_range run (count_in word) (counted_behind (behind (codes "--count=") word))
-
-chosen : (b : Bool) (o p : Option Job) → IfSome o IsInRange → IfSome p IsInRange → IfSome (if b then o else p) IsInRange
-chosen true o p h k = h
-chosen false o p h k = k
-
-gen_in_range : (words : List (List ℕ)) → IfSome (gen_of words) IsInRange
-gen_in_range [] = tt
-gen_in_range (word ∷ []) = with_in_range false word
-gen_in_range (word ∷ other ∷ []) =
-    let behind_it = if bytes_eq other (codes "--run") then gen_with true word else None in
-    chosen (bytes_eq word (codes "--run")) (gen_with true other) behind_it (with_in_range true other)
-    (chosen (bytes_eq other (codes "--run")) (gen_with true word) None (with_in_range true word) tt)
-gen_in_range (word ∷ other ∷ third ∷ words) = tt
-
-pub job_in_range : (words : List (List ℕ)) → IfSome (job_of words) IsInRange
-job_in_range [] = tt
-job_in_range (word ∷ words) =
-    let gen = if bytes_eq word (codes "gen") then gen_of words else None in
-    let check = if bytes_eq word (codes "check") then check_of words else gen in
-    chosen (bytes_eq word (codes "convert")) (convert_of words) check (convert_in_range words)
-    (chosen (bytes_eq word (codes "check")) (check_of words) gen (check_in_range words)
-    (chosen (bytes_eq word (codes "gen")) (gen_of words) None (gen_in_range words) tt))
+pub grid_told : (words : List (List ℕ)) (options : Options) → with_words no_options 2 words ≡ Some options → IsGrid (unwrap_or options.grid 1000)
+grid_told words options is = told options.grid (subst (λ (o : Option Options). IfSome o IsFine) is (words_set words 2 no_options tt))

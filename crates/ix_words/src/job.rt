@@ -1,5 +1,5 @@
 ghost use Rattle.std.specs.Prelude.{◌≡◌, [], ◌∷◌, map, IfSome, string_bytes};
-ghost use Rattle.ix_words.specs.Words.{no_options, with_words, count_in, gen_with, run_of, convert_of, check_of, gen_of, job_of, IsInRange};
+ghost use Rattle.ix_words.specs.Words.{no_options, with_words, count_in, gen_with, run_of, convert_of, check_of, gen_of, job_of, IsCount, IsInRange};
 
 use crate::numbers::count;
 use crate::options::Options;
@@ -40,7 +40,8 @@ fn options_of(words: &[String]) -> Option<Options>
 
 /// The job of the words behind `convert`.
 fn convert_job(words: &[String]) -> Option<Job>
-    ensures { result ≡ convert_of (map string_bytes words.now) }
+    ensures value { result ≡ convert_of (map string_bytes words.now) }
+    ensures range { IfSome result IsInRange }
 {
     let options = options_of(words)?;
     Some(Job::Convert {
@@ -52,7 +53,8 @@ fn convert_job(words: &[String]) -> Option<Job>
 
 /// The job of the words behind `check`.
 fn check_job(words: &[String]) -> Option<Job>
-    ensures { result ≡ check_of (map string_bytes words.now) }
+    ensures value { result ≡ check_of (map string_bytes words.now) }
+    ensures range { IfSome result IsInRange }
 {
     match words {
         [] => Some(Job::Check),
@@ -62,14 +64,16 @@ fn check_job(words: &[String]) -> Option<Job>
 
 /// The number of walls that a word says.
 fn count_in(word: &str) -> Option<u32>
-    ensures { result ≡ count_in word.now }
+    ensures value { result ≡ count_in word.now }
+    ensures range { IfSome result IsCount }
 {
     count(word.strip_prefix("--count=")?)
 }
 
 /// The job of the word behind `gen` that says the number of walls.
 fn count_job(word: &str, run: bool) -> Option<Job>
-    ensures { result ≡ gen_with run word.now }
+    ensures value { result ≡ gen_with run word.now }
+    ensures range { IfSome result IsInRange }
 {
     Some(Job::Gen {
         count: count_in(word)?,
@@ -79,7 +83,8 @@ fn count_job(word: &str, run: bool) -> Option<Job>
 
 /// The job of the two words behind `gen`.
 fn run_job(word: &str, other: &str) -> Option<Job>
-    ensures { result ≡ run_of word.now other.now }
+    ensures value { result ≡ run_of word.now other.now }
+    ensures range { IfSome result IsInRange }
 {
     if word == "--run" {
         return count_job(other, true);
@@ -92,7 +97,8 @@ fn run_job(word: &str, other: &str) -> Option<Job>
 
 /// The job of the words behind `gen`.
 fn gen_job(words: &[String]) -> Option<Job>
-    ensures { result ≡ gen_of (map string_bytes words.now) }
+    ensures value { result ≡ gen_of (map string_bytes words.now) }
+    ensures range { IfSome result IsInRange }
 {
     match words {
         [] => None,
@@ -104,19 +110,25 @@ fn gen_job(words: &[String]) -> Option<Job>
 
 /// The job that a first word names, with what follows it.
 fn named_job(first: &str, rest: &[String]) -> Option<Job>
-    ensures { result ≡ job_of (first.now ∷ map string_bytes rest.now) }
+    ensures value { result ≡ job_of (first.now ∷ map string_bytes rest.now) }
+    ensures range { IfSome result IsInRange }
 {
-    match first {
-        "convert" => convert_job(rest),
-        "check" => check_job(rest),
-        "gen" => gen_job(rest),
-        _ => None,
+    if first == "convert" {
+        return convert_job(rest);
     }
+    if first == "check" {
+        return check_job(rest);
+    }
+    if first == "gen" {
+        return gen_job(rest);
+    }
+    None
 }
 
 /// The job of the words.
 fn read_job(words: &[String]) -> Option<Job>
-    ensures { result ≡ job_of (map string_bytes words.now) }
+    ensures value { result ≡ job_of (map string_bytes words.now) }
+    ensures range { IfSome result IsInRange }
 {
     match words {
         [first, rest @ ..] => named_job(first.as_str(), rest),

@@ -1,7 +1,7 @@
-ghost use Rattle.std.specs.Prelude.{◌≡◌};
+ghost use Rattle.std.specs.Prelude.{◌≡◌, IfSome};
 ghost use Rattle.std.specs.List.{list_all};
 ghost use Rattle.std.specs.Char.{is_ascii_digit};
-ghost use Rattle.ix_words.specs.Words.{is_numeral, number_of, grid_of, count_of};
+ghost use Rattle.ix_words.specs.Words.{is_numeral, number_of, grid_of, count_of, IsCount};
 
 fn are_digits(text: &[u8]) -> bool
     ensures { result ≡ list_all is_ascii_digit text.now }
@@ -42,7 +42,8 @@ pub(crate) fn grid(text: &str) -> Option<u32>
 
 /// The number of walls of a generated file.
 pub(crate) fn count(text: &str) -> Option<u32>
-    ensures { result ≡ count_of text.now }
+    ensures value { result ≡ count_of text.now }
+    ensures range { IfSome result IsCount }
 {
     match number(text) {
         Some(count) if count >= 1 && count <= 150 => Some(count as u32),

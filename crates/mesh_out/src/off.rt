@@ -1,6 +1,7 @@
 ghost use Rattle.std.specs.Prelude.{◌≡◌, ◌+◌, ◌≤◌, [], ◌∷◌, ◌++◌, length, map, codes, vec_len, vec_capacity};
 ghost use Rattle.world_print.specs.Elements.{element_of, mesh_of};
 ghost use Rattle.mesh_out.specs.Off.{off_block, off_text};
+ghost use Rattle.mesh_out.specs.Writers.{known_writer};
 
 use crate::text::off_block;
 use crate::writer::MeshWriter;
@@ -20,7 +21,7 @@ pub struct OffWriter {
 impl OffWriter {
     /// A writer that took no mesh. It takes no memory.
     pub fn new(alloc: Global) -> OffWriter
-        ensures { ⟦<OffWriter as MeshWriter>⟧.taken result ≡ [] }
+        ensures { ⟦<OffWriter as MeshWriter>⟧.view result ≡ known_writer (codes "off") [] off_text }
     {
         OffWriter {
             alloc,
@@ -48,11 +49,7 @@ impl OffWriter {
 }
 
 impl MeshWriter for OffWriter {
-    ghost called = { λ _. codes "off" };
-
-    ghost taken = { λ w. map mesh_of w.taken.items };
-
-    ghost text_for = { λ _ meshes. off_text meshes };
+    ghost view = { λ w. known_writer (codes "off") (map mesh_of w.taken.items) off_text };
 
     fn name(&self) -> &str {
         "off"

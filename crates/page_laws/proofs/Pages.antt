@@ -13,8 +13,7 @@ use Rattle.spec_check.specs.Verdicts.{IsSoundElement, elements_in, IsSoundPage}
 use Rattle.table_limits.proofs.Tables.{IsShortSection}
 use Rattle.table_limits.proofs.Spellings.{accepted_short}
 use Rattle.refusal_limits.proofs.Refusals.{IsOutcomeWithin, outcome_within, numbers_within}
-use Rattle.spec_run.specs.Tasks.{Obj}
-use Rattle.spec_run.specs.Findings.{IsPageOf}
+use Rattle.spec_run.specs.Tasks.Converting.{Obj, IsPageOf}
 use Rattle.page_laws.proofs.Prints.{print_sound, print_within}
 
 -- an item keeps the limits, and is sound if it is an element

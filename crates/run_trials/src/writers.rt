@@ -1,5 +1,6 @@
 ghost use Rattle.std.specs.Prelude.{[], map, codes};
 ghost use Rattle.world_print.specs.Elements.{mesh_of};
+ghost use Rattle.mesh_out.specs.Writers.{known_writer};
 
 use crate::samples::{has, is_shown, joined, run_with};
 use exact_mesh::ExactMesh;
@@ -18,11 +19,7 @@ struct Quiet {
 }
 
 impl MeshWriter for Quiet {
-    ghost called = { λ _. codes "quiet" };
-
-    ghost taken = { λ w. map mesh_of w.taken.items };
-
-    ghost text_for = { λ _ _. [] };
+    ghost view = { λ w. known_writer (codes "quiet") (map mesh_of w.taken.items) (λ _. []) };
 
     fn name(&self) -> &str {
         "quiet"

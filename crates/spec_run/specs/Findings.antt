@@ -1,152 +1,98 @@
--- What a run finds before it writes, each with its cause.
-use Rattle.std.specs.Prelude.{◌≡◌, ℕ, ℤ, List, [], ◌++◌, Option, Some, None, IfSome, ⊤, ◌⊎◌}
+-- What a run finds before it writes, with its cause.
+use Rattle.std.specs.Prelude.{◌≡◌, ℕ, Bool, true, false, ◌&&◌, ◌||◌, IsTrue, List, [], ◌∷◌, ◌++◌, Option, Some, IfSome, ⊤, codes}
 use Rattle.spec_outside.specs.Causes.{Rose, IsEmptied}
-use Rattle.spec_outside.specs.Ends.{Known}
-use Rattle.spec_table.specs.Sections.{DataSection}
-use Rattle.spec_entity.specs.Elements.{elements}
-use Rattle.spec_geometry.specs.Files.{File}
-use Rattle.spec_page.specs.Items.{Item}
-use Rattle.spec_page.specs.Page.{page_text}
-use Rattle.spec_outcome.specs.Outcomes.{AreItemsOf, wanted_of}
-use Rattle.spec_meshes.specs.Meshes.{AreMeshesOf}
-use Rattle.spec_check.specs.Verdicts.{IsSoundPage}
-use Rattle.spec_check.specs.declared.Verdict.{Verdict}
-use Rattle.world_print.specs.Elements.{Mesh}
-use Rattle.mesh_out.specs.Writers.{Writer}
-use Rattle.model_gen.specs.Model.{model}
-use Rattle.spec_run.specs.declared.FileFault.{FileFault}
-use Rattle.spec_run.specs.Inputs.{IsInput, IsFaultOf, IsPageInput, IsPageFaultOf, IsCheckOf}
-use Rattle.spec_run.specs.Tasks.{Format, Obj, TextOf, Task, Convert, Check, Generate, Run, task_of}
+use Rattle.ix_words.specs.declared.status.Status.{Status}
+use Rattle.ix_words.specs.declared.status.Status.TheVariants as status
+use Rattle.ix_words.specs.Statuses.{is_done}
+use Rattle.spec_run.specs.Changes.{Change}
+use Rattle.spec_run.specs.Task.{Task}
 
--- a page of items; what is found of a page that is checked; a generated file of so many walls, and one with the items of its
--- page; a refused input; a fault of reading; want of memory; words that ask for nothing that is done
-pub data Finding : Type 0 where
-  Page : List Item → Finding
-  Checked : Verdict → Finding
-  Generated : ℕ → Finding
-  Ran : ℕ → List Item → Finding
-  Refused : FileFault → Finding
-  ReadFault : Finding
-  NoMemory : Finding
-  Usage : Finding
+-- the answer of a task; a refused input; a fault of reading; want of memory
+pub data Finding (t : Task) : Type 0 where
+  Answered : t.Answer → Finding t
+  Refused : t.Fault → Finding t
+  ReadFault : Finding t
+  NoMemory : Finding t
 
--- the meshes that a writer took, and then those of the converted items, give the page
-pub record IsWritten (writer : Writer) (file : File) (items : List Item) (page : List ℕ) : Type 0 where
-  pub meshes : List Mesh
-  pub converted : AreMeshesOf file items meshes
-  pub text : page ≡ writer.text_for (writer.taken ++ meshes)
+abbrev pub status_of : (t : Task) → Finding t → Status
+status_of t (Answered a) = t.status a
+status_of t (Refused why) = status.FileRefused
+status_of t ReadFault = status.ReadFault
+status_of t NoMemory = status.NoMemory
 
--- the page of the items of a file in a format
-abbrev pub IsTextIn : Format → File → List Item → List ℕ → Type 0
-IsTextIn Obj file items page = page ≡ page_text file.grid items
-IsTextIn (TextOf writer) file items page = IsWritten writer file items page
+abbrev pub report_of : (t : Task) → Finding t → List ℕ
+report_of t (Answered a) = t.report a
+report_of t (Refused why) = codes "refused " ++ t.reason why ++ 10 ∷ []
+report_of t ReadFault = codes "read fault\n"
+report_of t NoMemory = codes "want of memory\n"
 
--- the page of these bytes on a grid: one item for each wanted element of the file, in order, and its text
-pub record IsPageOf (grid : ℕ) (only : Option ℕ) (format : Format) (given page : List ℕ) (items : List Item) : Type 0 where
-  pub section : DataSection
-  pub unit : ℤ
-  pub input : IsInput given section unit
-  pub outcomes : AreItemsOf (record { section = section; unit = unit; grid = grid }) (wanted_of only (elements section)) items
-  pub text : IsTextIn format (record { section = section; unit = unit; grid = grid }) items page
+-- the page is put to the output: where the task puts it, and all is done
+abbrev pub is_put : (t : Task) → Finding t → Bool
+is_put t (Answered a) = t.puts && is_done (t.status a)
+is_put t (Refused why) = false
+is_put t ReadFault = false
+is_put t NoMemory = false
 
--- the page of a generated file on a grid of a millimetre
-abbrev pub IsPageOfModel : ℕ → List ℕ → List Item → Type 0
-IsPageOfModel n page items = IsPageOf 1000 None Obj (model n) page items
+-- The cause.
 
--- Under a task the source is read, or left as it is. What is known of it before the run is `src`, and after it `src'`.
+-- what a task is given: the bytes of the source, where it tells them; no bytes, where the task does not read
+abbrev pub given_to : Bool → Option (List ℕ) → Option (List ℕ)
+given_to true had = had
+given_to false had = Some []
 
--- it is read to its end, and no fault comes
-pub record IsReadWhole (src src' : Known) : Type 0 where
-  pub emptied : IsEmptied src.bytes src'.bytes
-  pub calm : src'.faults ≡ src.faults
+-- a task that reads has read the source to its end, and no fault came; one that does not has left it as it was
+abbrev pub IsReadWhole : Bool → Change → Type 0
+IsReadWhole true src = IsEmptied src.before.bytes src.after.bytes × (src.after.faults ≡ src.before.faults)
+IsReadWhole false src = src.same
 
--- a page of a file is made, or the file is refused
-abbrev pub IsConverted : ℕ → Option ℕ → Format → Known → Known → List ℕ → Finding → Type 0
-IsConverted grid only format src src' page (Page items) = IfSome src.bytes (λ given. IsPageOf grid only format given page items) × IsReadWhole src src'
-IsConverted grid only format src src' page (Checked verdict) = ⊥
-IsConverted grid only format src src' page (Generated n) = ⊥
-IsConverted grid only format src src' page (Ran n items) = ⊥
-IsConverted grid only format src src' page (Refused why) = IfSome src.bytes (λ given. IsFaultOf given why) × (page ≡ []) × (src'.faults ≡ src.faults)
-IsConverted grid only format src src' page ReadFault = Rose src.faults src'.faults × (page ≡ [])
-IsConverted grid only format src src' page NoMemory = src'.faults ≡ src.faults
-IsConverted grid only format src src' page Usage = ⊥
+-- no fault came
+abbrev pub IsCalm : Bool → Change → Type 0
+IsCalm true src = src.after.faults ≡ src.before.faults
+IsCalm false src = src.same
 
--- a page is read and checked, and none is made
-abbrev pub IsChecked : Known → Known → List ℕ → Finding → Type 0
-IsChecked src src' page (Page items) = ⊥
-IsChecked src src' page (Checked verdict) = IfSome src.bytes (λ given. IsCheckOf given verdict) × (page ≡ []) × IsReadWhole src src'
-IsChecked src src' page (Generated n) = ⊥
-IsChecked src src' page (Ran n items) = ⊥
-IsChecked src src' page (Refused why) = IfSome src.bytes (λ given. IsPageFaultOf given why) × (page ≡ []) × (src'.faults ≡ src.faults)
-IsChecked src src' page ReadFault = Rose src.faults src'.faults × (page ≡ [])
-IsChecked src src' page NoMemory = (page ≡ []) × (src'.faults ≡ src.faults)
-IsChecked src src' page Usage = ⊥
+-- a fault of the source came, which was read
+abbrev pub HasFailed : Bool → Change → Type 0
+HasFailed true src = Rose src.before.faults src.after.faults
+HasFailed false src = ⊥
 
--- nothing is read: the page is the file of so many walls, or memory is wanting
-abbrev pub IsGenerated : ℕ → Known → Known → List ℕ → Finding → Type 0
-IsGenerated n src src' page found = (((found ≡ Generated n) × (page ≡ model n)) ⊎ (found ≡ NoMemory)) × (src' ≡ src)
+-- where no page is made, it is empty
+abbrev pub IsMadeIf : Bool → List ℕ → Type 0
+IsMadeIf true page = ⊤
+IsMadeIf false page = page ≡ []
 
--- nothing is read: the page is that of the file of so many walls, or memory is wanting
-abbrev pub IsModelConverted : ℕ → Known → Known → List ℕ → Finding → Type 0
-IsModelConverted n src src' page found = (((items : List Item) × (found ≡ Ran n items) × IsPageOfModel n page items) ⊎ (found ≡ NoMemory)) × (src' ≡ src)
+-- Memory can be wanting only of a task that reads or makes something.
+abbrev pub HasCause : (t : Task) → Change → List ℕ → Finding t → Type 0
+HasCause t src page (Answered a) = IfSome (given_to t.reads src.before.bytes) (λ given. t.IsAnswer given page a × t.IsSound page) × IsMadeIf t.makes page × IsReadWhole t.reads src
+HasCause t src page (Refused why) = IfSome (given_to t.reads src.before.bytes) (λ given. t.IsRefused given why) × (page ≡ []) × IsCalm t.reads src
+HasCause t src page ReadFault = HasFailed t.reads src × (page ≡ [])
+HasCause t src page NoMemory = IsTrue (t.reads || t.makes) × IsMadeIf t.makes page × IsCalm t.reads src
 
-abbrev pub IsFoundBy : Task → Known → Known → List ℕ → Finding → Type 0
-IsFoundBy (Convert grid only format) src src' page found = IsConverted grid only format src src' page found
-IsFoundBy Check src src' page found = IsChecked src src' page found
-IsFoundBy (Generate n) src src' page found = IsGenerated n src src' page found
-IsFoundBy (Run n) src src' page found = IsModelConverted n src src' page found
+-- an answer, or else a fault of reading, or want of memory
+abbrev pub IsAnswerOrWants : (t : Task) → Finding t → Type 0
+IsAnswerOrWants t (Answered a) = ⊤
+IsAnswerOrWants t (Refused why) = ⊥
+IsAnswerOrWants t ReadFault = ⊤
+IsAnswerOrWants t NoMemory = ⊤
 
--- words that ask for no task are found so whatever the input, and the source is then as it was
-abbrev pub IsFoundFor : Option Task → Known → Known → List ℕ → Finding → Type 0
-IsFoundFor None src src' page found = (found ≡ Usage) × (page ≡ []) × (src' ≡ src)
-IsFoundFor (Some task) src src' page found = IsFoundBy task src src' page found
+-- a refusal for this reason, or else a fault of reading, or want of memory
+abbrev pub IsReasonOrWants : (t : Task) → t.Fault → Finding t → Type 0
+IsReasonOrWants t why (Answered a) = ⊥
+IsReasonOrWants t why (Refused other) = other ≡ why
+IsReasonOrWants t why ReadFault = ⊤
+IsReasonOrWants t why NoMemory = ⊤
 
--- under these words and writers this is found, and this page is made
-abbrev pub IsFound : List (List ℕ) → List Writer → Known → Known → List ℕ → Finding → Type 0
-IsFound words writers src src' page found = IsFoundFor (task_of words writers) src src' page found
+-- it has its cause; an input that the task takes has its answer, and any other is refused for its one reason
+pub record IsFound (t : Task) (src : Change) (page : List ℕ) (found : Finding t) : Type 0 where
+  pub cause : HasCause t src page found
+  pub answers : IfSome (given_to t.reads src.before.bytes) (λ given. t.IsTaken given → IsAnswerOrWants t found)
+  pub refuses : IfSome (given_to t.reads src.before.bytes) (λ given. (why : t.Fault) → t.IsRefused given why → IsReasonOrWants t why found)
 
--- the page that a task makes: that of the file, none, the generated file, or the page of it
+-- What is made.
+
+-- the page that a task makes of what the source had, by its answer, or none
 abbrev pub IsMadeBy : Task → Option (List ℕ) → List ℕ → Type 0
-IsMadeBy (Convert grid only format) had page = IfSome had (λ given. (items : List Item) × IsPageOf grid only format given page items)
-IsMadeBy Check had page = page ≡ []
-IsMadeBy (Generate n) had page = page ≡ model n
-IsMadeBy (Run n) had page = (items : List Item) × IsPageOfModel n page items
+IsMadeBy t had page = IfSome (given_to t.reads had) (λ given. (a : t.Answer) × t.IsAnswer given page a) × IsMadeIf t.makes page
 
--- the page in OBJ text of a file is one within the limits of pages, and its elements are sound
+-- and what holds of it besides
 abbrev pub IsSoundBy : Task → Option (List ℕ) → List ℕ → Type 0
-IsSoundBy (Convert grid only Obj) had page = IfSome had (λ given. IsSoundPage grid page)
-IsSoundBy (Convert grid only (TextOf writer)) had page = ⊤
-IsSoundBy Check had page = ⊤
-IsSoundBy (Generate n) had page = ⊤
-IsSoundBy (Run n) had page = IsSoundPage 1000 page
-
--- What is due: the answer of a task on an input that it takes, or the reason why it takes it not.
-
--- the bytes are an input that the task takes
-abbrev pub IsTakenBy : Task → List ℕ → Type 0
-IsTakenBy (Convert grid only format) given = (section : DataSection) × (unit : ℤ) × IsInput given section unit
-IsTakenBy Check given = (grid : ℕ) × (items : List Item) × IsPageInput given grid items
-IsTakenBy (Generate n) given = ⊥
-IsTakenBy (Run n) given = ⊥
-
--- the bytes are no input of the task, for this reason
-abbrev pub IsFaultFor : Task → List ℕ → FileFault → Type 0
-IsFaultFor (Convert grid only format) given why = IsFaultOf given why
-IsFaultFor Check given why = IsPageFaultOf given why
-IsFaultFor (Generate n) given why = ⊥
-IsFaultFor (Run n) given why = ⊥
-
--- this is an answer of the task on an input that it takes
-abbrev pub IsAnswerOf : Task → Finding → Type 0
-IsAnswerOf (Convert grid only format) found = (items : List Item) × (found ≡ Page items)
-IsAnswerOf Check found = (verdict : Verdict) × (found ≡ Checked verdict)
-IsAnswerOf (Generate n) found = ⊥
-IsAnswerOf (Run n) found = ⊥
-
--- this is found, or else a fault of reading, or want of memory
-abbrev pub IsOrWants : Finding → Finding → Type 0
-IsOrWants due found = ((found ≡ due) ⊎ (found ≡ ReadFault)) ⊎ (found ≡ NoMemory)
-
--- an answer of the task is found, or else a fault of reading, or want of memory
-abbrev pub IsAnswerOrWants : Task → Finding → Type 0
-IsAnswerOrWants task found = (IsAnswerOf task found ⊎ (found ≡ ReadFault)) ⊎ (found ≡ NoMemory)
+IsSoundBy t had page = IfSome (given_to t.reads had) (λ given. t.IsSound page)

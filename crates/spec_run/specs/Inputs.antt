@@ -1,9 +1,6 @@
--- What an input is: a file that is converted or a page that is checked, or one that is refused, and why.
-use Rattle.std.specs.Prelude.{◌≡◌, ℕ, ℤ, ◌^◌, ◌≤◌, ◌<◌, List, length, Ok, Err}
-use Rattle.spec_page.specs.Items.{Item}
-use Rattle.spec_check.specs.Grammar.{IsPageText, IsBadLine}
-use Rattle.spec_check.specs.Verdicts.{IsVerdict, elements_in}
-use Rattle.spec_check.specs.declared.Verdict.{Verdict}
+-- What a STEP file is as an input: one that is converted, or one that is refused, and why.
+use Rattle.std.specs.Prelude.{◌≡◌, ℕ, ℤ, ◌^◌, ◌≤◌, ◌<◌, List, ◌++◌, length, Ok, Err, codes}
+use Rattle.std.specs.Fmt.{decimal}
 use Rattle.spec_step.specs.declared.tree.Entry.{Entry}
 use Rattle.spec_step.specs.declared.fault.StepFault.{StepFault}
 use Rattle.spec_step.specs.declared.fault.StepFault.TheVariants as step
@@ -13,7 +10,7 @@ use Rattle.spec_geometry.specs.Units.{length_unit}
 use Rattle.spec_refusal.specs.declared.UnitFault.{UnitFault}
 use Rattle.spec_refusal.specs.declared.UnitFault.TheVariants as unit
 use Rattle.spec_run.specs.declared.FileFault.{FileFault}
-use Rattle.spec_run.specs.declared.FileFault.TheVariants.{TooLarge, Syntax, Nested, Schema, DuplicateNumber, NoProject, NoLengthUnit, Line}
+use Rattle.spec_run.specs.declared.FileFault.TheVariants.{TooLarge, Syntax, Nested, Schema, DuplicateNumber, NoProject, NoLengthUnit}
 
 -- the greatest number of bytes that are read
 abbrev pub most_bytes : ℕ
@@ -31,6 +28,10 @@ pub record IsFileWith (given : List ℕ) (section : DataSection) : Type 0 where
 pub record IsInput (given : List ℕ) (section : DataSection) (unit : ℤ) : Type 0 where
   pub file : IsFileWith given section
   pub measured : length_unit section ≡ Ok unit
+
+-- the bytes are such an input
+abbrev pub IsFileInput : List ℕ → Type 0
+IsFileInput given = (section : DataSection) × (unit : ℤ) × IsInput given section unit
 
 -- the text is no file, or does not pass the checks
 pub record IsNoFile (given : List ℕ) (why : StepFault) : Type 0 where
@@ -52,34 +53,12 @@ IsFaultOf given Schema = IsNoFile given step.Schema
 IsFaultOf given (DuplicateNumber n first second) = IsNoFile given (step.DuplicateNumber n first second)
 IsFaultOf given NoProject = LacksUnit given unit.NoProject
 IsFaultOf given NoLengthUnit = LacksUnit given unit.NoLengthUnit
-IsFaultOf given (Line n) = ⊥
 
--- Pages that are checked.
-
--- the bytes are the page of these items, which keep the limits
-pub record IsPageInput (given : List ℕ) (grid : ℕ) (items : List Item) : Type 0 where
-  pub small : length given ≤ most_bytes
-  pub page : IsPageText given grid items
-
--- the text is no page, and its line n is the first that is not allowed
-pub record IsNoPage (given : List ℕ) (n : ℕ) : Type 0 where
-  pub small : length given ≤ most_bytes
-  pub line : IsBadLine given n
-
--- why these bytes are refused as a page: exactly one of these holds of bytes that are no page
-abbrev pub IsPageFaultOf : List ℕ → FileFault → Type 0
-IsPageFaultOf given TooLarge = most_bytes < length given
-IsPageFaultOf given (Line n) = IsNoPage given n
-IsPageFaultOf given (Syntax at) = ⊥
-IsPageFaultOf given (Nested at) = ⊥
-IsPageFaultOf given Schema = ⊥
-IsPageFaultOf given (DuplicateNumber n first second) = ⊥
-IsPageFaultOf given NoProject = ⊥
-IsPageFaultOf given NoLengthUnit = ⊥
-
--- what is found of the elements of a page
-pub record IsCheckOf (given : List ℕ) (verdict : Verdict) : Type 0 where
-  pub grid : ℕ
-  pub items : List Item
-  pub input : IsPageInput given grid items
-  pub verdict_is : IsVerdict grid (elements_in items) verdict
+abbrev pub fault_text : FileFault → List ℕ
+fault_text TooLarge = codes "FileTooLarge"
+fault_text (Syntax at) = codes "Syntax at " ++ decimal at
+fault_text (Nested at) = codes "Nested at " ++ decimal at
+fault_text Schema = codes "Schema"
+fault_text (DuplicateNumber n first second) = codes "DuplicateNumber " ++ decimal n ++ codes " at " ++ decimal first ++ codes " and " ++ decimal second
+fault_text NoProject = codes "NoProject"
+fault_text NoLengthUnit = codes "NoLengthUnit"

@@ -1,4 +1,5 @@
+pub mod Changes
+pub mod Task
+pub mod Findings
 pub mod Inputs
 pub mod Tasks
-pub mod Findings
-pub mod Reports

@@ -3,7 +3,7 @@
 
 use thiserror::Error;
 
-/// Why an input is refused. Places are in bytes, from 0.
+/// Why a STEP file is refused. Places are in bytes, from 0.
 #[derive(Clone, Copy, Debug, Drop, PartialEq, Eq, Error)]
 pub enum FileFault {
     /// The input has more than 2^27 bytes.
@@ -37,9 +37,15 @@ pub enum FileFault {
     /// The units of the first project give no unit of length that is read (IFC4, IfcUnitAssignment).
     #[error("no unit of length that is read")]
     NoLengthUnit,
+}
+
+/// Why a text is refused as a page.
+#[derive(Clone, Copy, Debug, Drop, PartialEq, Eq, Error)]
+pub enum PageFault {
+    /// The input has more than 2^27 bytes.
+    #[error("more than 2^27 bytes")]
+    TooLarge,
     /// The text is no page of this project, and this line, from 1, is the first that is not allowed.
     #[error("not a page, at line {n}")]
-    Line {
-        n: usize,
-    },
+    Line { n: usize },
 }

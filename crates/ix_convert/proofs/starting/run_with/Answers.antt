@@ -1,7 +1,7 @@
-use Rattle.std.proofs.Common.{◌≡◌, List, map, subst, Global}
-use Rattle.std.specs.Prelude.{string_bytes}
-use Rattle.spec_outside.specs.Ends.{known}
+use Rattle.std.proofs.Common.{◌≡◌, List, subst}
 use Rattle.mesh_out.specs.Writers.{Writer}
+use Rattle.spec_run.specs.Changes.{change}
+use Rattle.spec_run.specs.Tasks.{asked}
 use Rattle.ix_convert.specs.Runs.{IsRun}
 use Rattle.ix_convert.proofs.starting.run_with.Goals as goal
 
@@ -12,10 +12,6 @@ returns g c =
     let rep = g.R.Sink in
     let run = c.convert_run in (
       run.new.page.items,
-      subst (λ (writers : List Writer). IsRun (map (string_bytes {Z = Global}) c.args.words.now) writers
-          (known (source.left c.args.src.now) (source.faults c.args.src.now)) (known (source.left run.new.src) (source.faults run.new.src))
-          run.new.page.items
-          (known (out.held c.args.out.now) (out.faults c.args.out.now)) (known (out.held run.new.out) (out.faults run.new.out)) (run.new.out ≡ c.args.out.now)
-          (known (rep.held c.args.rep.now) (rep.faults c.args.rep.now)) (known (rep.held run.new.rep) (rep.faults run.new.rep)) (run.new.rep ≡ c.args.rep.now)
-          run.result) c.requires run.ensures.run,
+      subst (λ (writers : List Writer). IsRun (asked c.args.words.now writers) run.new.page.items run.result (change source.left source.faults c.args.src.now run.new.src)
+          (change out.held out.faults c.args.out.now run.new.out) (change rep.held rep.faults c.args.rep.now run.new.rep)) c.requires run.ensures.run,
     )

@@ -9,6 +9,6 @@ abbrev pub invariant-loop-number : goal.invariant-loop-number
 invariant-loop-number g l =
     let old = goal.MeshWriter-dyn g l.fn.writer.now in
     let new = goal.MeshWriter-dyn g l.writer.now in
-    HasTaken (file_of l.table l.g) (take l.number-index l.numbers) (old.taken l.fn.writer.now.1) (new.taken l.writer.now.1) l.tally
+    HasTaken (file_of l.table l.g) (take l.number-index l.numbers) (old.view l.fn.writer.now.1).taken (new.view l.writer.now.1).taken l.tally
     × (l.tally.elements ≡ l.number-index)
-    × ((list : List Mesh) → new.text_for l.writer.now.1 list ≡ old.text_for l.fn.writer.now.1 list)
+    × ((list : List Mesh) → (new.view l.writer.now.1).text_for list ≡ (old.view l.fn.writer.now.1).text_for list)
