@@ -1,4 +1,4 @@
-/* Lets the allocation of a number fail: loaded before the C library by scripts/failing_allocations.
+/* Lets the allocation of a number fail: loaded before the C library by scripts/hostile.py.
    FAIL_AT is that number, from 1; the count of allocations is written to the file that COUNT_IN names. */
 #define _GNU_SOURCE
 #include <dlfcn.h>
