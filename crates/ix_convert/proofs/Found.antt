@@ -1,6 +1,6 @@
 -- What a task finds, and the answer that tells it.
 use Rattle.std.proofs.Common.{◌≡◌, ◌⊎◌, ℕ, ◌<◌, length, Bool, true, false, List, [], ◌∷◌, ◌++◌, Option, Some, None, IfSome, Result, Ok, Err, IfOk, inl, inr, refl, sym, ◌∙◌, ap, subst}
-use Rattle.std.specs.Prelude.{◌&&◌, ◌||◌, IsTrue, IsErrOf, OnErr, ⊤, codes}
+use Rattle.std.specs.Prelude.{◌&&◌, ◌||◌, IsTrue, IsErrOf, OnErr, codes}
 use Rattle.spec_outside.specs.Causes.{Rose, IsEmptied}
 use Rattle.ix_words.specs.declared.status.Status.{Status}
 use Rattle.ix_words.specs.declared.status.Status.TheVariants as status

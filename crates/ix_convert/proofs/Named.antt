@@ -3,12 +3,12 @@ use Rattle.std.proofs.Common.{◌≡◌, ◌⊎◌, ℕ, zero, suc, ◌+◌, ◌
 use Rattle.std.proofs.Math.Seq.{drop-cons}
 use Rattle.std.proofs.lemmas.List.{drop_all, length-map}
 use Rattle.std.proofs.lemmas.Option.{slice_get-map, slice_get-get_or, slice_get_cases}
-use Rattle.std.specs.Prelude.{slice_get, string_bytes, codes, if◌then◌else◌}
+use Rattle.std.specs.Prelude.{slice_get, string_bytes, codes}
 use Rattle.std.specs.Option.{option_map, option_and_then}
 use Rattle.std.specs.Str.{bytes_eq}
 use Rattle.spec_geometry.specs.Files.{File}
 use Rattle.world_print.specs.Elements.{Mesh}
-use Rattle.mesh_out.specs.Writers.{Writer, known_writer, first_named}
+use Rattle.mesh_out.specs.Writers.{Writer, first_named}
 use Rattle.ix_words.specs.Words.{behind, format_name}
 use Rattle.spec_run.specs.Changes.{Change}
 use Rattle.spec_run.specs.Tasks.{faulty, converting_to}

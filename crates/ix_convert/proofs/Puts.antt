@@ -1,5 +1,5 @@
 -- A run, by the answer that was delivered: the page that is made, and what is put of it.
-use Rattle.std.proofs.Common.{◌≡◌, ◌⊎◌, ℕ, Bool, true, false, List, [], IfSome, inl, inr, refl, ◌∙◌, subst}
+use Rattle.std.proofs.Common.{◌≡◌, ℕ, Bool, true, false, List, inl, inr, refl, ◌∙◌, subst}
 use Rattle.std.specs.Prelude.{◌&&◌}
 use Rattle.std.specs.Io.KnownBytes.{Appends}
 use Rattle.ix_words.specs.declared.status.Status.{Status}
@@ -8,7 +8,7 @@ use Rattle.ix_words.specs.Statuses.{is_done}
 use Rattle.spec_run.specs.Changes.{Change}
 use Rattle.spec_run.specs.Task.{Task}
 use Rattle.spec_run.specs.Findings.{Finding, Answered, Refused, ReadFault, NoMemory, status_of, report_of, is_put, given_to, IsReadWhole, IsCalm, HasFailed, HasCause, IsMadeBy, IsSoundBy}
-use Rattle.ix_convert.specs.Answers.{text_of, Tells, IsTold, Answers}
+use Rattle.ix_convert.specs.Answers.{text_of, Tells, Answers}
 use Rattle.ix_convert.specs.Runs.{IsRun}
 use Rattle.ix_convert.specs.Deliveries.{IsDelivered, page_if}
 use Rattle.ix_convert.specs.declared.answer.Answer.{Answer}

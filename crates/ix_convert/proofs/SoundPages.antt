@@ -1,7 +1,6 @@
 -- The page in OBJ text of a file is sound, and what is put of it is done.
 use Rattle.std.proofs.Common.{◌≡◌, ℕ, List, Bool, true, false, Option, None, refl, arith}
 use Rattle.std.specs.Prelude.{◌==◌, ◌&&◌, if◌then◌else◌}
-use Rattle.ix_words.specs.declared.status.Status.{Status}
 use Rattle.ix_words.specs.declared.status.Status.TheVariants.{Done, SomeRefused}
 use Rattle.ix_words.specs.Statuses.{is_done}
 use Rattle.ix_words.specs.Words.{IsGrid}

@@ -1,6 +1,5 @@
 -- Answers: a status and a report, before anything is written.
-use Rattle.std.specs.Prelude.{◌≡◌, ℕ, ◌<◌, Bool, false, ◌||◌, IsTrue, List, [], length, slice_get, Option, Some, None, ⊤, ◌⊎◌, codes}
-use Rattle.std.specs.Option.{option_map}
+use Rattle.std.specs.Prelude.{◌≡◌, ℕ, Bool, false, ◌||◌, IsTrue, List, [], ◌⊎◌, codes}
 use Rattle.ix_words.specs.declared.status.Status.{Status}
 use Rattle.ix_words.specs.declared.status.Status.TheVariants as status
 use Rattle.ix_outside.specs.declared.fault.TakeFault.{TakeFault}

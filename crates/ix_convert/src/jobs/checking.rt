@@ -1,13 +1,12 @@
 ghost use Rattle.std.specs.Prelude.{◌≡◌, ◌≤◌, ◌++◌, ◌∷◌, ℕ, List, [], length, IfOk, IfErr, OnOk, codes};
 ghost use Rattle.spec_page.specs.Items.{Item};
-ghost use Rattle.spec_page.specs.Refusals.{spaced_number};
 ghost use Rattle.spec_check.specs.Grammar.{IsPageText};
 ghost use Rattle.spec_check.specs.Verdicts.{IsVerdict, elements_in};
 ghost use Rattle.obj_read.specs.Answers.{HasLine};
 ghost use Rattle.spec_run.specs.Changes.{change};
 ghost use Rattle.spec_run.specs.Inputs.{most_bytes};
 ghost use Rattle.spec_run.specs.Tasks.Checking.{verdict_status, verdict_text, page_fault_text, checking};
-ghost use Rattle.ix_convert.specs.Answers.{AnswersIn, Answers, SaysWant, Tells};
+ghost use Rattle.ix_convert.specs.Answers.{AnswersIn, Answers};
 
 use crate::answer::{Answer, MOST_BYTES, built, no_memory, refused, unread};
 use crate::report::put_worded;

@@ -1,4 +1,3 @@
-use Rattle.std.proofs.Common.{map}
 use Rattle.spec_run.specs.Changes.{change}
 use Rattle.ix_convert.proofs.Puts.{run_of, made_of, sound_of, whole_of, unput_of, kept_of, unread_of}
 use Rattle.ix_convert.proofs.run.convert_run.Goals as goal

@@ -1,4 +1,4 @@
-use Rattle.std.proofs.Common.{◌≡◌, List, subst}
+use Rattle.std.proofs.Common.{List, subst}
 use Rattle.mesh_out.specs.Writers.{Writer}
 use Rattle.spec_run.specs.Changes.{change}
 use Rattle.spec_run.specs.Tasks.{asked}
